@@ -8,9 +8,10 @@ import { isPlain } from './day-model.js';
 /** @typedef {import('./day-model.js').Block} Block */
 /** @typedef {import('./ranges.js').Range} Range */
 /** @typedef {import('./tables.js').Counts} Counts */
-/** @typedef {{ key: string, place: number, frames: number, status: string }} AiredRun */
+/** @typedef {{ key: string, place: number, frames: number, status: import('./tables.js').Status }} AiredRun */
 /** @typedef {AiredRun & { mark: string, source: string, title: string, planned: string }} AiredRow */
 
+/** @type {(keyof Counts)[]} */
 export const STATUSES = ['OK', 'SLIP', 'WRONG', 'MISSED'];
 /** @type {Object<string, string>} */
 export const STATUS_WORDS = {
@@ -89,10 +90,10 @@ export function sourceRows(day, runs, source) {
 
 /** @param {AiredRun[]} rows @returns {Counts} */
 export function totalsOf(rows) {
-    /** @type {Object<string, number>} */
+    /** @type {Counts} */
     const totals = { OK: 0, SLIP: 0, WRONG: 0, MISSED: 0 };
     for (const row of rows) totals[row.status] += row.frames;
-    return /** @type {any} */ (totals);
+    return totals;
 }
 
 /** Each source of the plan once, in the order in which it comes.

@@ -2,10 +2,11 @@
 // and where no answer came it stops, and goes on from there once the tables have said what was done.
 
 import { change, Left } from './office.js';
+import { inDoubt } from './requests.js';
 import { counted, say, show } from './dom.js';
 import { sentenceOf } from './refusals.js';
 
-/** Those that this tab is at, by their keys. @type {Map<string, BulkRun>} */
+/** @type {Map<string, BulkRun>} those that this tab is at, by their keys */
 const runs = new Map();
 const TAB = Math.random().toString(36).slice(2);
 
@@ -13,34 +14,43 @@ addEventListener('beforeunload', (event) => {
     if (runs.size > 0) event.preventDefault();
 });
 
+/** @param {string} key */
 export function runOf(key) {
     return runs.get(key) ?? null;
 }
 
+/** @param {BulkStore} store @param {import('./bulk-store.js').Head} head */
 export function isElsewhere(store, head) {
     return store.isElsewhere(head, TAB, Date.now());
 }
 
+/** @typedef {import('./bulk-store.js').BulkStore} BulkStore */
+/** @typedef {import('./bulk-store.js').Row & { key: number }} Row */
+
 export class BulkRun {
-    // what: as of Bulk; face: the Bulk that shows it, another one once its view was opened again
+    /** @param {string} key @param {import('./report.js').What} what @param {BulkStore} store
+     * @param {import('./report.js').Report} face what shows it, another one once its view was opened again */
     constructor(key, what, store, face) {
         this.key = key;
         this.what = what;
         this.store = store;
         this.face = face;
+        /** @type {Row[]} */
         this.rows = [];
         this.sum = '';
         this.isKept = false;
         this.stopped = false;
     }
 
+    /** @param {string} file @param {string} sum @param {Row[]} rows */
     begin(file, sum, rows) {
         this.rows = rows;
         this.sum = sum;
         this.isKept = this.store.begin(file, sum, rows, TAB, Date.now());
     }
 
-    // Of a file that was begun before, by this tab or another.
+    /** Of a file that was begun before, by this tab or another.
+     * @param {string} sum */
     resume(sum) {
         this.rows = this.store.rows(sum).map((row) => ({ ...row, key: row.line }));
         this.sum = sum;
@@ -68,12 +78,14 @@ export class BulkRun {
         }
     }
 
+    /** @param {number} index */
     keep(index) {
         if (!this.isKept) return;
         this.store.keep(this.sum, this.rows, index);
         this.store.isAt(this.sum, TAB, Date.now());
     }
 
+    /** @param {Row} row @returns {Promise<string | null>} why it stops */
     async one(row) {
         if (row.fault) {
             [row.state, row.result] = ['refused', row.fault];
@@ -88,7 +100,7 @@ export class BulkRun {
             }
         }
         const message = this.what.message(row);
-        if (message.fault) {
+        if ('fault' in message) {
             [row.state, row.result] = ['refused', message.fault];
             return null;
         }
@@ -96,7 +108,7 @@ export class BulkRun {
         this.keep(this.rows.indexOf(row));
         const answer = await change(message.path, message.body);
         if (answer.kind === 'lost') {
-            row.result = 'No answer: it may have been done, or not.';
+            row.result = inDoubt(answer);
             return `${answer.words}.`;
         }
         row.doubt = false;
@@ -105,6 +117,7 @@ export class BulkRun {
         return null;
     }
 
+    /** @param {Row} row */
     async there(row) {
         try {
             return await this.what.isThere(row);
@@ -120,6 +133,7 @@ export class BulkRun {
         return `${counted(done, 'line')} done, ${refused} refused`;
     }
 
+    /** @param {string} words */
     halted(words) {
         if (this.isKept) this.store.isAt(this.sum, '', 0);
         return this.told({ kind: 'not', words: `${words} So far ${this.counts()}.` });
@@ -130,7 +144,8 @@ export class BulkRun {
         return this.told({ kind: 'done', words: `${counted(this.rows.length, 'line')}: ${this.counts()}.` });
     }
 
-    // It is said wherever staff are.
+    /** It is said wherever staff are.
+     * @param {{ kind: string, words: string }} outcome */
     told(outcome) {
         say(`${this.what.title}: ${outcome.words}`, outcome.kind === 'done' ? 'good' : 'bad', String(this.what.place));
         return outcome;

@@ -6,23 +6,29 @@ import { WEEKDAYS, dateOf, dayOfDate, monthOf } from './dates.js';
 import { site, today } from './site.js';
 
 export class Calendar {
+    /** @param {number} number @param {() => number | null} onAir @param {(day: number) => string} address
+     * @param {(day: number) => string} stateOf */
     constructor(number, onAir, address, stateOf) {
         this.stateOf = stateOf;
         this.number = number;
         this.onAir = onAir;
         this.address = address;
+        this.date = '';
+        /** @type {ReturnType<typeof monthOf>} */
+        this.month;
         this.table = make('table', { class: 'calendar' });
         this.title = make('b', {});
-        const turn = (way) => () => this.show(this.month[way]);
+        const turn = (/** @type {'before' | 'behind'} */ way) => () => this.show(this.month[way]);
         this.element = make('details', { class: 'calendar-box' }, make('summary', {}, 'Calendar'),
-            make('div', { class: 'bar' }, button('<', turn('before'), { 'aria-label': 'The month before' }), this.title,
-                button('>', turn('behind'), { 'aria-label': 'The month after' })),
-            this.table);
+            make('div', { class: 'calendar-over' },
+                make('div', { class: 'bar' }, button('<', turn('before'), { 'aria-label': 'The month before' }),
+                    this.title, button('>', turn('behind'), { 'aria-label': 'The month after' })),
+                this.table));
         this.element.addEventListener('keydown', (event) => {
             if (event.key !== 'Escape' || !this.element.open) return;
             event.stopPropagation();
             this.element.open = false;
-            this.element.querySelector('summary').focus();
+            this.element.querySelector('summary')?.focus();
         });
         this.show(dateOf(site().day1, number) ?? today().date);
     }
@@ -32,6 +38,7 @@ export class Calendar {
         this.show(this.date);
     }
 
+    /** @param {string} date */
     show(date) {
         this.date = date;
         this.month = monthOf(date);
@@ -41,6 +48,7 @@ export class Calendar {
             ...week.map((each) => make('td', {}, this.cell(each))))));
     }
 
+    /** @param {{ date: string, own: boolean }} each */
     cell({ date, own }) {
         const day = dayOfDate(site().day1, date);
         const number = String(Number(date.slice(8)));

@@ -3,10 +3,14 @@
 import { say } from './dom.js';
 import { endOf, gapFrom, indexAt } from './ranges.js';
 import { gapWords } from './day-model.js';
-import { isSame } from './edits.js';
+import { insertPlace, isSame } from './edits.js';
 import { frameOf, placeOf } from './timecode.js';
 
+/** @typedef {import('./day-model.js').Block} Block */
+/** @typedef {import('./day-model.js').PlanRow} PlanRow */
+
 export class DayChoice {
+    /** @param {import('./view-day.js').DayView} view */
     constructor(view) {
         this.view = view;
         this.turn = 0; // counts what staff chose, so that a change that ends later chooses nothing else
@@ -25,6 +29,21 @@ export class DayChoice {
         return at ? timeline.cursor : this.openPlace()?.place ?? timeline.cursor;
     }
 
+    // Things are inserted before what is chosen, or before the item at the cursor, or at the cursor.
+    insertPlace() {
+        const { day, timeline } = this.view;
+        return this.blocks()[0]?.place ?? insertPlace(day.blocks, timeline.cursor);
+    }
+
+    /** A place that staff go to: the cursor is there, and what is there is chosen.
+     * @param {number} place */
+    goTo(place) {
+        const { day, timeline, list } = this.view;
+        const block = day.blocks[indexAt(day.blocks, place)];
+        list.chooseKey(block?.key ?? `gap-${day.gaps[indexAt(day.gaps, place)]?.place}`, true);
+        timeline.moveTo(place, false);
+    }
+
     showOpenPlace() {
         const { day, openWords } = this.view;
         const gap = this.openPlace();
@@ -37,11 +56,13 @@ export class DayChoice {
         openWords.classList.toggle('replaces', one);
     }
 
-    // Chosen items, by place.
+    /** Chosen items, by place.
+     * @returns {Block[]} */
     blocks() {
         return this.view.day ? this.view.timeline.marked() : [];
     }
 
+    /** @param {string | number} key */
     blockOf(key) {
         return this.view.day.blocks.find((each) => each.key === key) ?? null;
     }
@@ -54,7 +75,8 @@ export class DayChoice {
         edits.forms.chosen();
     }
 
-    // A row was chosen: an item, or a gap, which is then where things are put.
+    /** A row was chosen: an item, or a gap, which is then where things are put.
+     * @param {PlanRow} row */
     row(row) {
         this.byStaff();
         const { timeline, forms } = this.view;
@@ -64,6 +86,7 @@ export class DayChoice {
         if (timeline.chosen) forms.remove.offer({ item: row.number });
     }
 
+    /** @param {{ key: string | number }[]} rows */
     rows(rows) {
         const { day, timeline, forms, edits } = this.view;
         const keys = new Set(rows.map((row) => row.key));
@@ -74,7 +97,8 @@ export class DayChoice {
         this.showOpenPlace();
     }
 
-    // An item was chosen on the time line, or none.
+    /** An item was chosen on the time line, or none.
+     * @param {Block | null} block @param {import('./list.js').How} how */
     block(block, how) {
         this.byStaff();
         const { list, forms } = this.view;
@@ -84,7 +108,8 @@ export class DayChoice {
         this.rows(list.chosenRows());
     }
 
-    // What was put in by a change.
+    /** What was put in by a change.
+     * @param {import('./edits.js').Piece[]} pieces */
     pieces(pieces) {
         const { day, list, timeline } = this.view;
         const keys = new Set(day.blocks.filter((block) => pieces.some((piece) => isSame(piece, block)))
@@ -98,7 +123,8 @@ export class DayChoice {
         this.rows(rows);
     }
 
-    // The plan has the focus again, at the row of a place, once what had it went away.
+    /** The plan has the focus again, at the row of a place, once what had it went away.
+     * @param {number} place */
     focusOnPlan(place) {
         const { list } = this.view;
         const index = list.rows.findIndex((row) => row.place <= place && place < endOf(row));
@@ -106,6 +132,7 @@ export class DayChoice {
         list.element.focus();
     }
 
+    /** @param {number} place */
     nextGap(place) {
         const { day, timeline, list, edits } = this.view;
         const gap = day.gaps.find((each) => each.place > place) ?? day.gaps[0];
@@ -118,7 +145,8 @@ export class DayChoice {
         list.chooseKey(`gap-${gap.place}`);
     }
 
-    // The first place of a label that the office told, in view.
+    /** The first place of a label that the office told, in view.
+     * @param {string} label */
     bringLabel(label) {
         const { day, timeline, list } = this.view;
         const { frame } = frameOf(label, day.rate);
@@ -130,6 +158,7 @@ export class DayChoice {
         list.chooseKey(block ? block.key : `gap-${gap?.place}`);
     }
 
+    /** @param {number} number */
     bringItem(number) {
         const { timeline, list } = this.view;
         list.chooseKey(`item-${number}`, true);

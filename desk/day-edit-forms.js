@@ -10,7 +10,8 @@ import { endOf } from './ranges.js';
 
 const KINDS = [['C', 'Cut'], ['D', 'Dissolve'], ['W', 'Wipe']];
 
-// The kind as its three fields have it, or a fault beside one of them.
+/** The kind as its three fields have it, or a fault beside one of them.
+ * @param {import('./fields.js').Values} values */
 function kindFrom({ kind, mix, wipe, length }) {
     if (kind === 'C') return { kind, mix: 0 };
     if (mix < 1) throw new FieldFault('A dissolve and a wipe have a mix of 1 frame or more.', 'mix');
@@ -20,13 +21,17 @@ function kindFrom({ kind, mix, wipe, length }) {
     return { kind: `W${String(wipe).padStart(3, '0')}`, mix };
 }
 
+/** @typedef {import('./day-model.js').Block} Block */
+
 export class EditForms {
+    /** @param {import('./day-edits.js').DayEdits} edits */
     constructor(edits) {
         this.edits = edits;
         const { view } = edits;
         this.view = view;
         this.shifts = false;
-        this.offered = null; // the item that the fields are filled from
+        /** @type {Block | null} the item that the fields are filled from */
+        this.offered = null;
         this.common = { place: `${view.desk.channel}/${view.number}`, rate: view.desk.rate, ready: () => view.day };
         this.edit = this.editForm();
         this.move = this.moveForm();
@@ -34,6 +39,7 @@ export class EditForms {
         this.copy = this.copyForm();
     }
 
+    /** @param {string} label */
     placeOf(label) {
         const { rate, start } = this.view.day;
         return placeOf(frameAt(label, rate), start, rate);
@@ -90,7 +96,7 @@ export class EditForms {
                     throw new FieldFault('No item begins at the cursor or behind it.', 'step');
                 }
             },
-            run: (values) => (values.shifts ? this.edits.shift(values.place, values.step)
+            run: async (values) => (values.shifts ? this.edits.shift(values.place, values.step)
                 : this.edits.move(values.step)),
             done: (answer) => `${answer.change.words}.`,
         });
@@ -126,11 +132,10 @@ export class EditForms {
         const { view } = this;
         return new Form({
             ...this.common, name: 'copy-day', title: 'Copy a day into this one', word: 'Copy',
-            fields: [{ name: 'from', label: 'Day', kind: 'number', value: String(Math.max(1, view.number - 1)),
+            fields: [{ name: 'from', label: 'Day', kind: 'day', value: String(Math.max(1, view.number - 1)),
                 hint: 'yesterday, or any' }],
             prepare: (values) => {
                 if (values.from === view.number) throw new FieldFault('This is the day itself.', 'from');
-                if (values.from < 1 || values.from > 99999) throw new FieldFault('Days are 1 to 99,999.', 'from');
             },
             run: (values) => this.edits.copyDay(values.from),
             done: (answer) => `${answer.change.words}.`,
@@ -150,13 +155,14 @@ export class EditForms {
         const { view } = this;
         if (!view.day) return;
         const blocks = view.choice.blocks();
-        const label = (place) => labelAt(view.day, place);
+        const label = (/** @type {number} */ place) => labelAt(view.day, place);
         if (blocks.length === 1) this.offer(blocks[0], label);
         if (blocks.length > 0 && this.empty.typed.size === 0) {
             this.empty.offer({ first: label(blocks[0].place), end: label(endOf(blocks[blocks.length - 1])) });
         }
     }
 
+    /** @param {Block} block @param {(place: number) => string} label */
     offer(block, label) {
         const { edit, offered } = this;
         if (offered?.number === block.number && edit.typed.size > 0) {

@@ -1,28 +1,36 @@
 // What staff change of a planned day: chosen items are moved, trimmed, replaced, copied and pasted, a stretch is made
 // empty, another day is copied. Each is a change of plan-changes.js, and can be taken back.
 
-import { button, counted, make, say, show } from './dom.js';
-import { readPlan } from './facts.js';
-import { dayOf } from './day-model.js';
+import { button, counted, make, say, show, targetOf } from './dom.js';
+import { copyDay } from './day-copy.js';
 import {
-    changed, cleared, moved, packed, pasted, pieceOf, replaced, reversed, shifted, sorted, trimmed, unpacked, without,
+    changed, cleared, inserted, moved, packed, pasted, pieceOf, replaced, reversed, shifted, trimmed, unpacked, without,
 } from './edits.js';
 import { framesOf } from './edl.js';
+import { endOf } from './ranges.js';
 import { EditForms } from './day-edit-forms.js';
 import { History } from './history.js';
 import { Notice } from './notice.js';
 import { PlanChanges } from './plan-changes.js';
+import { STOPPED, watched } from './progress.js';
 import { kept, put } from './tab.js';
 import { stepLabel, lengthLabel } from './timecode.js';
 import { sentenceOf } from './refusals.js';
 
-// Whether a change that wasn't done may be done later: nobody was asked, no answer came, or it isn't the rows that
-// refuse.
+/** @typedef {import('./edits.js').Change} Change */
+/** @typedef {import('./day-model.js').Block} Block */
+/** What came of a change, in words that were said.
+ * @typedef {{ kind: string, words: string, change?: Change, isUnasked?: boolean, code?: number }} Carried */
+
+/** Whether a change that wasn't done may be done later: nobody was asked, no answer came, or it isn't the rows that
+ * refuse.
+ * @param {Carried} outcome */
 function mayComeLater(outcome) {
-    return outcome.kind === 'lost' || outcome.isUnasked || outcome.code >= 100;
+    return outcome.kind === 'lost' || outcome.isUnasked === true || (outcome.code ?? 0) >= 100;
 }
 
 export class DayEdits {
+    /** @param {import('./view-day.js').DayView} view */
     constructor(view) {
         this.view = view;
         this.place = `${view.desk.channel}/${view.number}`;
@@ -51,7 +59,7 @@ export class DayEdits {
     }
 
     settleDoubt() {
-        const doubted = this.changes.doubted(this.view.day.blocks);
+        const doubted = this.changes?.doubted(this.view.day.blocks);
         if (!doubted) return;
         if (doubted.done) this.wasChanged(doubted.change);
         const words = doubted.done ? `It was done: ${doubted.change.words}.` : doubted.words;
@@ -59,22 +67,25 @@ export class DayEdits {
     }
 
     showHistory() {
-        for (const [element, entry, word] of [[this.undoButton, this.history.toUndo(), 'Undo'],
-            [this.redoButton, this.history.toRedo(), 'Redo']]) {
+        for (const [element, word] of /** @type {const} */ ([[this.undoButton, 'Undo'], [this.redoButton, 'Redo']])) {
+            const entry = word === 'Undo' ? this.history.toUndo() : this.history.toRedo();
             element.setAttribute('aria-disabled', String(!entry));
             element.title = entry ? `${word}: ${entry.words}` : `Nothing to ${word.toLowerCase()}`;
         }
     }
 
+    /** @param {Change} change */
     wasChanged(change) {
         this.history.push(change);
         this.showHistory();
     }
 
-    // Of an import: what the list had, as far as it is in the plan now and wasn't before.
+    /** Of an import: what the list had, as far as it is in the plan now and wasn't before.
+     * @param {import('./fields.js').Values} values */
     wereImported({ list, mode, before, file }) {
         const { rate, start, blocks } = this.view.day;
-        const places = new Map(list.events.map((event) => [(event.record - start + rate.day) % rate.day, event]));
+        const events = /** @type {import('./edl.js').EditEvent[]} */ (list.events);
+        const places = new Map(events.map((event) => [(event.record - start + rate.day) % rate.day, event]));
         const add = without(blocks, before).filter((block) => {
             const event = places.get(block.place);
             return event && framesOf(event, mode === 'ignore') === block.frames;
@@ -83,11 +94,24 @@ export class DayEdits {
             add: add.map(pieceOf) });
     }
 
-    // Carries out a change and tells what became of it.
+    /** Carries out a change and tells what became of it.
+     * @param {Change} change @param {boolean} remember @returns {Promise<Carried>} */
     async carry(change, remember = true) {
         if (!this.changes || this.view.day.sealed) return { kind: 'not', words: 'The day can\'t be changed now.' };
         show(`${change.words}...`, 'plain', this.place);
-        const outcome = await this.changes.perform(change);
+        const control = { stopped: false };
+        const asked = this.changes.perform(change, control);
+        const outcome = await watched(() => `${change.words}...`, this.place, asked, control);
+        if (outcome !== STOPPED) return this.came(change, outcome, remember);
+        asked.then((late) => this.came(change, late, remember));
+        const words = 'Stopped waiting. What became of it is told once the office answers.';
+        say(words, 'bad', this.place);
+        return { kind: 'lost', words };
+    }
+
+    /** @param {Change} change @param {import('./plan-changes.js').Outcome} outcome @param {boolean} remember
+     * @returns {Promise<Carried>} */
+    async came(change, outcome, remember) {
         if (outcome.kind === 'done' && remember) this.wasChanged(outcome.change);
         const words = outcome.words ?? (outcome.kind === 'refused' ? sentenceOf(outcome) : '');
         if (outcome.kind === 'done') say(`${change.words}.`, 'good', this.place);
@@ -96,12 +120,13 @@ export class DayEdits {
         return { ...outcome, words };
     }
 
-    // What was put in is chosen then, so that it can be changed on.
+    /** What was put in is chosen then, so that it can be changed on.
+     * @param {Change} change */
     async carryAndChoose(change) {
         const { choice, scope } = this.view;
         const { turn } = choice;
         const outcome = await this.carry(change);
-        if (outcome.kind === 'done' && !scope.gone && turn === choice.turn) {
+        if (outcome.change && !scope.gone && turn === choice.turn) {
             choice.pieces(outcome.change.add);
             this.view.sourcing.asksFirst = true;
         }
@@ -112,16 +137,19 @@ export class DayEdits {
         return this.changes?.isBusy() ?? false;
     }
 
+    /** @param {Block[]} blocks */
     nameOf(blocks) {
         return blocks.length === 1 ? `Item ${blocks[0].number} ${blocks[0].title}` : counted(blocks.length, 'item');
     }
 
+    /** @param {number} step @returns {Promise<Carried> | null} */
     move(step) {
         const blocks = this.view.choice.blocks();
         if (blocks.length === 0 || step === 0) return null;
         return this.carryAndChoose(moved(blocks, step, `${this.nameOf(blocks)} moved by ${this.step(step)}`));
     }
 
+    /** @param {number} place @param {number} step */
     shift(place, step) {
         const blocks = this.view.day.blocks.filter((block) => block.place >= place);
         const words = `${counted(blocks.length, 'item')} from ${this.view.timeline.label(place)} on moved by `
@@ -129,19 +157,38 @@ export class DayEdits {
         return this.carry(shifted(this.view.day.blocks, place, step, words));
     }
 
+    /** @param {number} step */
     step(step) {
         return stepLabel(step, this.view.day.rate);
     }
 
+    /** @param {Block} block @param {import('./ranges.js').Range} range */
     trim(block, range) {
         const words = `${this.nameOf([block])} trimmed to ${lengthLabel(range.frames, this.view.day.rate)}`;
         return this.carryAndChoose(trimmed(block, range, words));
     }
 
+    /** @param {Block} block @param {Partial<import('./edits.js').Piece>} values */
     change(block, values) {
         return this.carryAndChoose(changed(block, values, `${this.nameOf([block])} changed`));
     }
 
+    /** A piece put in before what is chosen, or at the cursor, and what follows pushed on to the next gaps.
+     * @param {import('./edits.js').Piece} piece @returns {Promise<Carried>} */
+    async insert(piece) {
+        const { day, timeline } = this.view;
+        const change = inserted(day.blocks, [piece], piece.place, '');
+        const over = Math.max(...change.add.map(endOf)) - day.frames;
+        if (over > 0) {
+            return { kind: 'not', words: 'The gaps behind it don\'t take so much: '
+                + `${lengthLabel(over, day.rate)} too long. Nothing was changed.` };
+        }
+        const pushed = change.out.length > 0 ? `, ${counted(change.out.length, 'item')} pushed on` : '';
+        change.words = `${piece.source} inserted at ${timeline.label(piece.place)}${pushed}`;
+        return this.carryAndChoose(change);
+    }
+
+    /** @param {Block} block @param {import('./day-model.js').Source} source */
     async replace(block, source) {
         const words = `${this.nameOf([block])} replaced by ${source.reel} ${source.title}`;
         const outcome = await this.carryAndChoose(replaced(block, source, this.view.day.rate, words));
@@ -149,6 +196,7 @@ export class DayEdits {
         return outcome;
     }
 
+    /** @param {number} place @param {number} end */
     clearStretch(place, end) {
         const { timeline, day } = this.view;
         return this.carry(cleared(day.blocks, place, end,
@@ -202,8 +250,9 @@ export class DayEdits {
         });
     }
 
-    // One behind the other, so that a key that is pressed twice takes back two things. What got no answer stays to do;
-    // what others made impossible is passed over, so that what was done before it can be taken back.
+    /** One behind the other, so that a key that is pressed twice takes back two things. What got no answer stays to do;
+     * what others made impossible is passed over, so that what was done before it can be taken back.
+     * @param {Change} change @param {{ lost: () => void, impossible: () => void }} fails */
     async again(change, fails) {
         this.showHistory();
         const outcome = await this.carry(change, false);
@@ -215,41 +264,22 @@ export class DayEdits {
         this.showHistory();
     }
 
-    // Another day's items into this one. What can't come is listed first, and the rest comes if staff say so.
-    async copyDay(from) {
-        const { view } = this;
-        const { plan, answer } = await readPlan(view.scope, view.desk.channel, from);
-        if (!plan) return answer.kind === 'lost' ? { kind: 'not', words: answer.words } : answer;
-        const { rate, start } = view.day;
-        await view.againSources();
-        await view.againPlan();
-        const pieces = dayOf(plan, start, rate, view.titles).blocks.map(pieceOf);
-        const { come, stay } = sorted(pieces, view.day.blocks, view.titles, view.number, rate);
-        if (pieces.length === 0) return { kind: 'not', words: `Day ${from} has no items.` };
-        const change = { words: `${counted(come.length, 'item')} of day ${from} copied`, out: [], add: come };
-        if (stay.length === 0) return this.carry(change);
-        this.notice.show(`${counted(stay.length, 'item')} of day ${from} can't come:`, this.rowsOf(stay), [
-            ...(come.length > 0 ? [[`Copy the other ${come.length}`, () => this.carry(change)]] : []),
-            ['Not now', () => null],
-        ], view.main);
-        return { kind: 'asked', words: `${counted(stay.length, 'item')} can't come: they are listed above.` };
+    /** @param {number} from */
+    copyDay(from) {
+        return copyDay(this, from);
     }
 
-    rowsOf(stay) {
-        return stay.map(({ piece, why }) => ({
-            key: `stay-${piece.place}`, at: this.view.timeline.label(piece.place), source: piece.source,
-            title: this.view.titles.get(piece.source)?.title ?? '', why,
-        }));
-    }
-
+    /** @param {KeyboardEvent} event */
     key(event) {
-        if (!(event.ctrlKey || event.metaKey) || event.altKey || event.target.matches('input, select')) return;
+        if (!(event.ctrlKey || event.metaKey) || event.altKey || targetOf(event).matches('input, select')) return;
         // A text that is marked is copied as everywhere.
         if (event.key.toLowerCase() === 'c' && String(getSelection() ?? '') !== '') return;
-        const does = {
+        /** @type {Object<string, () => unknown>} */
+        const keys = {
             z: () => (event.shiftKey ? this.redo() : this.undo()), y: () => this.redo(), c: () => this.copy(),
             x: () => this.cut(), v: () => this.paste(),
-        }[event.key.toLowerCase()];
+        };
+        const does = keys[event.key.toLowerCase()];
         if (!does || !this.view.day || this.view.day.sealed) return;
         event.preventDefault();
         does();

@@ -4,8 +4,10 @@ import { button, counted, make, say } from './dom.js';
 import { foundIn, lentStateOf, nextOf } from './find-model.js';
 
 export class DayFind {
+    /** @param {import('./view-day.js').DayView} view */
     constructor(view) {
         this.view = view;
+        /** @type {import('./day-model.js').Block[]} those whose clip was recalled */
         this.blocks = [];
         this.input = make('input', { id: 'plan-search', type: 'search', placeholder: 'title or reel in the plan',
             'aria-label': 'Find in the plan' });
@@ -21,7 +23,8 @@ export class DayFind {
         this.element = make('div', { class: 'group' }, this.input, this.count, this.recalled, this.last);
     }
 
-    // Enter brings the next one into view, with Shift the one before.
+    /** Enter brings the next one into view, with Shift the one before.
+     * @param {boolean} brings @param {number} step */
     found(brings, step = 1) {
         const { view } = this;
         if (!view.day) return;

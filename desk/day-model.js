@@ -13,7 +13,8 @@ import { endOf, gapsOf, indexAt } from './ranges.js';
  *     from: number, kind: string, mix: number, title: string, look: string, recalled: boolean,
  *     tapeOut: boolean }} Block tapeOut: its tape stands in no slot */
 /** @typedef {{ rate: Rate, start: number, frames: number, sealed: boolean, planned: number, number: number,
- *     blocks: Block[], gaps: Range[], runs?: any[] }} Day */
+ *     blocks: Block[], gaps: Range[],
+ *     runs?: import('./aired-model.js').AiredRun[] }} Day */
 /** @typedef {{ key: string, reel: string, title: string, frames: number | null, first: string | null, look: string,
  *     words: string }} Source */
 
@@ -110,12 +111,16 @@ export function placeWords(day, place) {
     return gap ? gapWords(day, gap) : '';
 }
 
+/** A row of the plan: an item, or a gap, which has no number.
+ * @typedef {Omit<Block, 'number' | 'from' | 'look'> & { number: number | '', gap: boolean, mark: string }} PlanRow */
+
 /** The rows of the plan: items and gaps together, by place.
- * @param {Day} day */
+ * @param {Day} day @returns {PlanRow[]} */
 export function planRows(day) {
     const items = day.blocks.map((block) => ({ ...block, gap: false, mark: block.recalled ? 'recalled' : block.look }));
     const gaps = day.gaps.map((gap) => ({
-        ...gap, key: `gap-${gap.place}`, gap: true, mark: 'gap', title: 'GAP', source: '', number: '',
+        ...gap, key: `gap-${gap.place}`, gap: true, mark: 'gap', title: 'GAP', source: '', first: '', kind: '', mix: 0,
+        recalled: false, tapeOut: false, number: /** @type {const} */ (''),
     }));
     return [...items, ...gaps].sort((one, other) => one.place - other.place);
 }

@@ -7,10 +7,13 @@ import { Calendar } from './calendar.js';
 import { dayNamed } from './dates.js';
 import { dayDate, site } from './site.js';
 
+/** @typedef {import('./desk.js').Desk} Desk */
+
 const AROUND = 3;
 const MOST = 99999;
 
-// The day that was shown last in this channel, where the address names none.
+/** The day that was shown last in this channel, where the address names none.
+ * @param {Desk} desk @param {string[]} more */
 export function dayNumber(desk, more) {
     const named = Number(more[0]);
     const key = `${desk.channel}/day`;
@@ -21,6 +24,7 @@ export function dayNumber(desk, more) {
 }
 
 export class DayBar {
+    /** @param {Desk} desk @param {string} view @param {number} number @param {import('./office.js').Scope} scope */
     constructor(desk, view, number, scope) {
         this.desk = desk;
         this.view = view;
@@ -31,7 +35,7 @@ export class DayBar {
             'aria-describedby': 'day-fault' });
         this.strip = make('ul', { class: 'days', 'aria-label': 'Days around this one' });
         this.fault = make('span', { class: 'fault', id: 'day-fault' });
-        const go = (event) => {
+        const go = (/** @type {Event} */ event) => {
             event.preventDefault();
             this.typed();
         };
@@ -56,13 +60,15 @@ export class DayBar {
         if (fault) this.input.setAttribute('aria-invalid', 'true');
         else this.input.removeAttribute('aria-invalid');
         if (fault) announce(fault);
-        else this.go(day);
+        else if (day !== undefined) this.go(day);
     }
 
+    /** @param {number} day */
     address(day) {
         return `#/${this.desk.channel}/${this.view}/${day}`;
     }
 
+    /** @param {number} number */
     go(number) {
         if (number >= 1 && number <= MOST) this.desk.goTo(this.view, number);
     }
@@ -78,13 +84,15 @@ export class DayBar {
         this.calendar?.again();
     }
 
-    // Of a day in the calendar.
+    /** Of a day in the calendar.
+     * @param {number} day */
     wordsOf(day) {
         const state = this.stateOf(day);
         const row = this.known?.get(day);
         return row && !row.sealed && row.frames < this.desk.rate().day ? `${state}, gaps` : state.replace('none', '');
     }
 
+    /** @param {number} day */
     stateOf(day) {
         if (!this.known) return '';
         const row = this.known.get(day);
@@ -102,6 +110,6 @@ export class DayBar {
             }, make('b', {}, String(day)), ` ${state === 'none' ? 'not there' : state || '...'}`,
             date ? make('small', {}, date) : null));
         }));
-        if (had) this.strip.querySelector(`a[href="${had}"]`)?.focus();
+        if (had) /** @type {HTMLElement | null} */ (this.strip.querySelector(`a[href="${had}"]`))?.focus();
     }
 }

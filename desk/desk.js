@@ -1,7 +1,7 @@
 // The page: who may speak for which channels, which view is shown, and whether the office answers.
 
-import { make, clear, say, unsay, byId, keepFocus } from './dom.js';
-import { onConnection, probeAs, Left, Scope } from './office.js';
+import { make, clear, say, unsay, byId, selectById, keepFocus } from './dom.js';
+import { onConnection, page, probeAs, Left, Scope } from './office.js';
 import { knownRate, knownStart, readRow } from './facts.js';
 import { site, readSite, channelName } from './site.js';
 import { sentenceOf } from './refusals.js';
@@ -12,10 +12,23 @@ import { channelView } from './view-channel.js';
 import { vaultView } from './view-vault.js';
 import { clipsView } from './view-clips.js';
 import { dayView } from './view-day.js';
+import { daysView } from './view-days.js';
 import { pullView } from './view-pull.js';
 import { airedView } from './view-aired.js';
 
 const LISTS = 'Lists: arrows choose, Left and Right a column, S sorts, + and - widen';
+/** @typedef {import('./timecode.js').Rate} Rate */
+/** What the views know: who asks, for which channel, and where else there is to go.
+ * @typedef {{ user: string, channels: number[], channel: number,
+ *     goTo: (view: string, ...more: (string | number)[]) => void,
+ *     rate: () => Rate, start: () => number }} Desk the rate and the start are known before a view is shown */
+/** A view in the page: it reads again what it shows, is left, and has a sheet to print.
+ * @typedef {{ again: () => unknown, leave?: () => void,
+ *     sheet?: () => import('./sheet.js').Sheet | null | undefined | false }} Shown */
+/** @typedef {{ name: string, word: string, key: string, keys: string,
+ *     show: (main: HTMLElement, desk: Desk, more: string[], scope: Scope) => Shown }} ViewOf */
+
+/** @type {ViewOf[]} */
 const VIEWS = [
     { name: 'channel', word: 'Channel', key: 'c', show: channelView, keys: '' },
     {
@@ -25,6 +38,10 @@ const VIEWS = [
     {
         name: 'clips', word: 'Clips', key: 'k', show: clipsView,
         keys: `Enter puts the clip into the forms. ${LISTS}`,
+    },
+    {
+        name: 'days', word: 'Days', key: 'm', show: daysView,
+        keys: 'Arrows go from day to day, Page Up and Page Down to the neighbours, Enter opens one',
     },
     {
         name: 'day', word: 'Day', key: 'y', show: dayView,
@@ -41,13 +58,16 @@ const VIEWS = [
     },
 ];
 
+/** @type {Desk} */
 const desk = {
     user: '', channels: [], channel: 0, goTo,
-    rate: () => knownRate(desk.channel), start: () => knownStart(desk.channel),
+    rate: () => /** @type {Rate} */ (knownRate(desk.channel)), start: () => knownStart(desk.channel) ?? 0,
 };
+/** @type {Shown | null} */
 let current = null;
 let scope = new Scope();
 
+/** @param {string} view @param {(string | number)[]} more */
 function goTo(view, ...more) {
     location.hash = ['', desk.channel, view, ...more].join('/');
 }
@@ -59,13 +79,14 @@ function route() {
     return { channel: channel ? Number(channel) : desk.channels[0], named: channel, view, more };
 }
 
+/** @param {number} channel @param {ViewOf} view */
 function showNavigation(channel, view) {
     const links = VIEWS.map((each) => make('a', {
         href: `#/${channel}/${each.name}`, accesskey: each.key, 'data-view': each.name,
         'aria-current': each === view ? 'page' : null, title: `Alt+${each.key.toUpperCase()}`,
     }, each.word));
     clear(byId('views'), ...links);
-    byId('channel').value = String(desk.channel);
+    selectById('channel').value = String(desk.channel);
     byId('keys').textContent = view.keys;
     document.title = `${view.word} - ${channelName(desk.channel)} - Temolunai desk`;
 }
@@ -113,7 +134,8 @@ async function show() {
     return null;
 }
 
-// An address of a channel that isn't the user's shows no other channel's rows in its place.
+/** An address of a channel that isn't the user's shows no other channel's rows in its place.
+ * @param {HTMLElement} main @param {string} named */
 function refuseChannel(main, named) {
     document.title = 'No such channel of yours - Temolunai desk';
     clear(main, make('div', { class: 'missing', id: 'not-yours' },
@@ -124,7 +146,8 @@ function refuseChannel(main, named) {
     return null;
 }
 
-// Labels can't be read without a rate: until the office tells it, nothing of the channel is shown.
+/** Labels can't be read without a rate: until the office tells it, nothing of the channel is shown.
+ * @param {HTMLElement} main @param {import('./requests.js').Answer} answer */
 function withoutRow(main, answer) {
     const words = answer.kind === 'refused' ? sentenceOf(answer) : 'The office doesn\'t tell this channel\'s rate yet.';
     clear(main, make('p', { class: 'fault', id: 'no-row' }, words));
@@ -140,6 +163,7 @@ async function again() {
     }
 }
 
+/** @param {import('./office.js').Connection} now @param {string} words @param {string} was */
 function showConnection(now, words, was) {
     const badge = byId('connection');
     badge.textContent = { connected: 'CONNECTED', slow: 'WAITING', gone: 'NO ANSWER' }[now];
@@ -159,7 +183,7 @@ function showConnection(now, words, was) {
 }
 
 async function whoAmI() {
-    const response = await fetch('/me', { cache: 'no-store' });
+    const response = await page('/me');
     if (goesToLogin(response)) return leaving();
     if (!response.ok) throw new Error(`/me was answered ${response.status}`);
     const { user, channels } = await response.json();
@@ -171,8 +195,8 @@ async function whoAmI() {
 }
 
 function hears() {
-    byId('channel').addEventListener('change', (event) => {
-        location.hash = `/${event.target.value}/${route().view.name}`;
+    selectById('channel').addEventListener('change', () => {
+        location.hash = `/${selectById('channel').value}/${route().view.name}`;
     });
     addEventListener('hashchange', show);
     addEventListener('focus', again);
@@ -214,7 +238,8 @@ addEventListener('unhandledrejection', (event) => {
     else say(`The desk met a fault: ${event.reason?.message}`, 'bad');
 });
 startTheme();
-byId('theme').value = chosenTheme();
-byId('theme').addEventListener('change', (event) => setTheme(event.target.value));
+const theme = selectById('theme');
+theme.value = chosenTheme();
+theme.addEventListener('change', () => setTheme(theme.value));
 keepFocus(byId('main'));
 start();

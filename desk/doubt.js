@@ -2,16 +2,24 @@
 // where it wasn't done, and by staff.
 
 import { announce, button, clear } from './dom.js';
+import { inDoubt } from './requests.js';
+
+export { foundIn } from './requests.js';
+
+/** @typedef {import('./fields.js').Values} Values */
 
 export class Doubt {
+    /** @param {import('./form.js').Form} form */
     constructor(form) {
         this.form = form;
+        /** @type {Values | null} those that were sent */
         this.values = null;
     }
 
+    /** @param {import('./requests.js').Lost} answer @param {Values} values */
     begin(answer, values) {
         const { form } = this;
-        const words = `${answer.words}. It may have been done, or not. What you typed is kept.`;
+        const words = `${inDoubt(answer)} What you typed is kept.`;
         form.message.textContent = words;
         form.scans?.became('lost', '');
         announce(words);
@@ -24,19 +32,21 @@ export class Doubt {
 
     async ask() {
         const { form, values } = this;
-        const found = await form.what.asked(values);
+        const found = values && await form.what.asked?.(values);
+        if (!values || !found) return;
         if (found.lost) {
             form.message.textContent = 'Still no answer. Whether it was done isn\'t known yet. What you typed is kept.';
             announce(form.message.textContent);
         } else if (found.done) await form.wasDone(`It was done: ${found.words}`, values);
-        else this.offer();
+        else this.offer(values);
     }
 
-    offer() {
-        const { form, values } = this;
+    /** @param {Values} values */
+    offer(values) {
+        const { form } = this;
         form.message.textContent = 'It was not done. You can send it again.';
         announce(form.message.textContent);
-        const settle = (next) => () => form.working(async () => {
+        const settle = (/** @type {() => unknown} */ next) => () => form.working(async () => {
             this.values = null;
             form.clearFaults();
             await next();
@@ -46,11 +56,4 @@ export class Doubt {
         clear(form.more, again, edit);
         again.focus();
     }
-}
-
-// What `asked` answers: looks into what was read, where it could be read.
-export function foundIn(answer, look) {
-    if (answer.kind === 'lost') return { lost: true };
-    const words = look(answer);
-    return words ? { done: true, words } : { done: false };
 }

@@ -7,11 +7,17 @@ import { landing } from './day-model.js';
 
 const BEGINS = 5;
 
+/** @typedef {import('./day-model.js').Source} Source */
+
 export class Drag {
-    // view: { timeline, day, sourcing }
+    /** @param {import('./view-day.js').DayView} view */
     constructor(view) {
         this.view = view;
+        /** @type {Source | null} */
         this.source = null;
+        /** @type {HTMLElement | null} */
+        this.shadow = null;
+        this.from = [0, 0];
         /** @type {[string, (event: any) => void][]} */
         this.listeners = [
             ['pointermove', (event) => this.move(event)], ['pointerup', (event) => this.drop(event)],
@@ -20,6 +26,7 @@ export class Drag {
         ];
     }
 
+    /** @param {Source} source @param {PointerEvent} event */
     begin(source, event) {
         if (event.pointerType === 'touch' || !this.view.day) return;
         this.end();
@@ -28,7 +35,9 @@ export class Drag {
         for (const [type, hearer] of this.listeners) addEventListener(type, hearer);
     }
 
+    /** @param {PointerEvent} event */
     move(event) {
+        if (!this.source) return;
         const far = Math.hypot(event.clientX - this.from[0], event.clientY - this.from[1]);
         if (!this.shadow && far < BEGINS) return;
         if (!this.shadow) {
@@ -45,20 +54,23 @@ export class Drag {
         timeline.later();
     }
 
-    // The gap under the pointer, or the next one where an item is under it.
+    /** The gap under the pointer, or the next one where an item is under it.
+     * @param {PointerEvent} event */
     lands(event) {
         const { timeline, day } = this.view;
         if (!timeline.covers(event)) return null;
         const place = timeline.placeAt(event.clientX);
         const gap = day.gaps[indexAt(day.gaps, place)] ?? gapFrom(day.gaps, place);
-        return gap ? { gap, place, landing: landing(gap, this.source, place, event.shiftKey) } : null;
+        const { source } = this;
+        return gap && source ? { gap, place, landing: landing(gap, source, place, event.shiftKey) } : null;
     }
 
+    /** @param {PointerEvent} event */
     drop(event) {
         const [source, shadow] = [this.source, this.shadow];
         const lands = shadow ? this.lands(event) : null;
         this.end();
-        if (lands) this.view.sourcing.put(source, lands.gap, true, lands.place, event.shiftKey);
+        if (lands && source) this.view.sourcing.put(source, lands.gap, true, lands.place, event.shiftKey);
     }
 
     end() {

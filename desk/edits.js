@@ -2,7 +2,7 @@
 // a move nor a trim, so each change is these two, as one revision. Nothing here asks the office.
 
 import { frameAt, labelOf } from './timecode.js';
-import { endOf } from './ranges.js';
+import { endOf, indexAt } from './ranges.js';
 import { isPlain } from './day-model.js';
 
 /** @typedef {import('./day-model.js').Block} Block */
@@ -11,6 +11,7 @@ import { isPlain } from './day-model.js';
 /** @typedef {{ place: number, frames: number, source: string, from: number, kind: string, mix: number,
  *     number?: number }} Piece an item by what it shows; its number is the office's, and may be given again */
 /** @typedef {{ words: string, out: Piece[], add: Piece[] }} Change */
+/** @typedef {[number, number, string, number, string, number]} Packed place, frames, source, from, kind, mix */
 
 /** @param {Piece} block @returns {Piece} */
 export function pieceOf(block) {
@@ -27,12 +28,12 @@ export function isSame(one, other) {
 }
 
 /** As short as they can be kept.
- * @param {Piece[]} pieces */
+ * @param {Piece[]} pieces @returns {Packed[]} */
 export function packed(pieces) {
     return pieces.map(({ place, frames, source, from, kind, mix }) => [place, frames, source, from, kind, mix]);
 }
 
-/** @param {any[]} rows @returns {Piece[]} */
+/** @param {Packed[]} rows @returns {Piece[]} */
 export function unpacked(rows) {
     return rows.map(([place, frames, source, from, kind, mix]) => ({ place, frames, source, from, kind, mix }));
 }
@@ -113,6 +114,30 @@ export function pasted(pieces, place, words) {
     return { words, out: [], add: pieces.map((piece) => ({ ...pieceOf(piece), place: piece.place - first + place })) };
 }
 
+/** Where something is put in before an item: at the begin of the one that has the place, else at the place.
+ * @param {Block[]} blocks by place @param {number} place */
+export function insertPlace(blocks, place) {
+    return blocks[indexAt(blocks, place)]?.place ?? place;
+}
+
+/** Pieces put in at a place, before what begins there. What follows is pushed on, each item only as far as it has to
+ * be: gaps take up what they can.
+ * @param {Block[]} blocks by place @param {Piece[]} pieces @param {number} place where no item goes on
+ * @param {string} words @returns {Change} */
+export function inserted(blocks, pieces, place, words) {
+    const add = pasted(pieces, place, words).add;
+    let end = Math.max(...add.map(endOf));
+    const out = [];
+    for (const block of blocks) {
+        if (block.place < place) continue;
+        if (block.place >= end) break;
+        out.push(block);
+        add.push({ ...pieceOf(block), place: end });
+        end += block.frames;
+    }
+    return { words, out, add };
+}
+
 /** The body of a revision: the numbers that are taken out, and the items that are put in. An item with a mix is a
  * dissolve, and a wipe has its number besides.
  * @param {number[]} remove @param {Piece[]} pieces @param {number} start the day's @param {Rate} rate */
@@ -160,23 +185,29 @@ export function clashOf(blocks, change, frames) {
     return null;
 }
 
-/** Why the office wouldn't take an item into a day, or null. Its frames are looked at too.
- * @param {Piece} piece @param {Sources} sources @param {number} day @param {Rate} rate @returns {string | null} */
-export function whyNot(piece, sources, day, rate) {
+/** Why the office wouldn't take an item into a day, by its number and in words, or null.
+ * @param {Piece} piece @param {Sources} sources @param {number} day @param {Rate} rate
+ * @returns {{ code: number, why: string } | null} */
+export function refusalOf(piece, sources, day, rate) {
     if (isPlain(piece.source)) return null;
     const clip = sources.get(piece.source);
-    if (!clip) return 'there is no such source';
-    if (clip.state === 'retired') return 'the clip is retired';
-    if (clip.state === 'withdrawn') return 'its owner recalled the clip';
+    if (!clip) return { code: 77, why: 'there is no such source' };
+    if (clip.state === 'retired') return { code: 55, why: 'the clip is retired' };
+    if (clip.state === 'withdrawn') return { code: 66, why: 'its owner recalled the clip' };
     if ('rate' in clip) {
         if (clip.days && (day < clip.days.first || day > clip.days.last)) {
-            return `the clip is lent for days ${clip.days.first} to ${clip.days.last}`;
+            return { code: 88, why: `the clip is lent for days ${clip.days.first} to ${clip.days.last}` };
         }
-        if (clip.rate !== rate.rate) return 'the clip is of another rate';
+        if (clip.rate !== rate.rate) return { code: 78, why: 'the clip is of another rate' };
     }
     const first = frameAt(clip.first, rate);
     const has = first <= piece.from && piece.from + piece.frames <= first + clip.frames;
-    return has ? null : 'the clip hasn\'t all these frames';
+    return has ? null : { code: 79, why: 'the clip hasn\'t all these frames' };
+}
+
+/** @param {Piece} piece @param {Sources} sources @param {number} day @param {Rate} rate @returns {string | null} */
+export function whyNot(piece, sources, day, rate) {
+    return refusalOf(piece, sources, day, rate)?.why ?? null;
 }
 
 /** Pieces that may come and those that can't, each of these with the reason.

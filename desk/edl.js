@@ -9,7 +9,9 @@ import { frameOf, labelOf } from './timecode.js';
  *     source: number, sourceFrames: number, record: number, frames: number, notes: string[] }} EditEvent */
 /** @typedef {{ line: number, code: number, label?: number }} ListFault */
 
-const NOTHING = /^[ \t]*$/;
+const BLANKS = /^[ \t]+|[ \t]+$/g;
+const EVENT = /^[0-9]/;
+const MOST_EVENTS = 9999;
 
 /** The text of a list with these items as its events, by place.
  * @param {string} title @param {Piece[]} pieces @param {number} start the day's @param {Rate} rate
@@ -69,24 +71,92 @@ function modeOf(line) {
     return mode ? mode[1] === 'DROP FRAME' : null;
 }
 
-/** The events of a list, as far as its first fault.
- * @param {string} text @param {Rate} rate
+/** A file's lines, each with whether it is UTF-8.
+ * @param {Uint8Array} bytes @returns {{ text: string, isText: boolean }[]} */
+function linesIn(bytes) {
+    const whole = new TextDecoder('utf-8', { ignoreBOM: true });
+    const text = whole.decode(bytes).replace(/^\ufeff/, '');
+    if (!text.includes('\ufffd')) return text.split('\n').map((line) => ({ text: line, isText: true }));
+    // What isn't UTF-8 was read as U+FFFD, which a text may have, too.
+    const strict = new TextDecoder('utf-8', { fatal: true, ignoreBOM: true });
+    let from = 0;
+    return text.split('\n').map((line) => {
+        const end = bytes.indexOf(10, from);
+        const own = bytes.subarray(from, end < 0 ? bytes.length : end);
+        from = end + 1;
+        try {
+            strict.decode(own);
+            return { text: line, isText: true };
+        } catch {
+            return { text: line, isText: false };
+        }
+    });
+}
+
+/** The lines of a list without what they end by, and without blanks at both ends.
+ * @param {string | Uint8Array} list */
+function linesOf(list) {
+    const lines = linesIn(typeof list === 'string' ? new TextEncoder().encode(list) : list);
+    return lines.map((line) => ({ ...line, text: line.text.replace(/\r$/, '').replace(BLANKS, '') }));
+}
+
+/** What a line means; a frame mode and an empty line mean nothing more.
+ * @param {{ text: string, isText: boolean }} line @param {number} number @param {Rate} rate
+ * @returns {{ title?: string, event?: EditEvent, note?: string, fault?: ListFault }} */
+function meaningOf({ text, isText }, number, rate) {
+    if (!isText) return { fault: { line: number, code: 21 } };
+    if (text === '') return {};
+    if (text.startsWith('TITLE:')) return { title: text.slice(6).replace(BLANKS, '') };
+    if (EVENT.test(text)) return eventOf(text, number, rate);
+    const drop = modeOf(text);
+    if (drop === null) return { note: text };
+    return drop === rate.drop ? {} : { fault: { line: number, code: 26 } };
+}
+
+/** Why an event is refused that has no fault of its own, or null.
+ * @param {EditEvent} event @param {number} before so many events with a frame @param {boolean} ignore */
+function refusedFor(event, before, ignore) {
+    if (!ignore && event.sourceFrames !== event.frames && !isSpeed(event)) return 28;
+    return hasFrame(event) && before >= MOST_EVENTS ? 30 : null;
+}
+
+/** @param {EditEvent} event */
+function hasFrame(event) {
+    return event.sourceFrames > 0 || event.frames > 0;
+}
+
+/** What each line means, an event with its notes: those before the next line that begins with a digit, also behind a
+ * line with a fault.
+ * @param {string | Uint8Array} list @param {Rate} rate */
+export function meaningsOf(list, rate) {
+    const lines = linesOf(list);
+    const meanings = lines.map((line, index) => meaningOf(line, index + 1, rate));
+    /** @type {EditEvent | undefined} */
+    let event;
+    for (const [index, { text }] of lines.entries()) {
+        const { note } = meanings[index];
+        if (EVENT.test(text)) event = meanings[index].event;
+        else if (note !== undefined) event?.notes.push(note);
+    }
+    return meanings;
+}
+
+/** The events of a list, as far as its first fault. Lengths that differ are one where they aren't ignored.
+ * @param {string | Uint8Array} list @param {Rate} rate @param {boolean} ignore
  * @returns {{ title: string, events: EditEvent[], fault: ListFault | null }} */
-export function readList(text, rate) {
+export function readList(list, rate, ignore = true) {
     /** @type {EditEvent[]} */
     const events = [];
-    let title = '';
-    const lines = text.replace(/^\ufeff/, '').split('\n');
-    for (let index = 0; index < lines.length; index += 1) {
-        const line = lines[index].replace(/\r$/, '').replace(/^[ \t]+|[ \t]+$/g, '');
-        const drop = modeOf(line);
-        if (drop !== null && drop !== rate.drop) return { title, events, fault: { line: index + 1, code: 26 } };
-        if (/^\d/.test(line)) {
-            const { event, fault } = eventOf(line, index + 1, rate);
-            if (!event) return { title, events, fault: fault ?? null };
-            events.push(event);
-        } else if (line.startsWith('TITLE:')) title = line.slice(6).trim();
-        else if (drop === null && !NOTHING.test(line)) events[events.length - 1]?.notes.push(line);
+    let [title, counted] = ['', 0];
+    for (const meaning of meaningsOf(list, rate)) {
+        if (meaning.fault) return { title, events, fault: meaning.fault };
+        title = meaning.title ?? title;
+        const { event } = meaning;
+        if (!event) continue;
+        const code = refusedFor(event, counted, ignore);
+        if (code) return { title, events, fault: { line: event.line, code } };
+        if (hasFrame(event)) counted += 1;
+        events.push(event);
     }
     return { title, events, fault: null };
 }

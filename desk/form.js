@@ -3,38 +3,37 @@
 // until what it changed was read again, so that a second press finds things as they are.
 
 import { make, clear, button, freshId, say, announce, focusOn } from './dom.js';
-import { change } from './office.js';
+import { mayBeDone } from './requests.js';
+import { sent } from './form-messages.js';
 import { Doubt } from './doubt.js';
-import { FieldFault, fieldOf, fieldRefused, valueOf } from './fields.js';
+import { FieldFault, fieldOf, fieldRefused, fillField, valueOf } from './fields.js';
 import { sentenceOf } from './refusals.js';
 import { Scans } from './scans.js';
 
-// Refusals that a request meets whose like was done before.
-const MAY_BE_DONE = [43, 46, 47, 51, 55, 64, 66, 72, 75];
+/** @typedef {import('./form-messages.js').What} What */
+/** @typedef {import('./fields.js').Values} Values */
+/** @typedef {import('./requests.js').Refused} Refused */
+/** @typedef {{ kind: 'asked' | 'not', words: string }} Settled without asking the office */
 
 export class Form {
-    // what: { name, title, word, fields, rate(), place (the channel, or channel and day, that what was typed is kept
-    // for), ready() (what it is about was read), prepare(values), check(values) (whether things are as they were shown:
-    // throws a FieldFault), confirm(values), final (it can't be undone), message(values) or messages(values),
-    // run(values) (in the place of messages), done(answer, values), after(values), next (the field that is typed next),
-    // scans, asked(values) -> { done, words } or { lost }, refused(refusal, values), lines: 'list', 'batch' or 'seal' }
+    /** @param {What} what */
     constructor(what) {
         this.what = what;
-        /** @type {Object<string, any>} */
+        /** @type {Object<string, import('./fields.js').Input>} */
         this.inputs = {};
+        /** @type {Object<string, HTMLElement>} */
         this.faults = {};
+        /** @type {string | null} what is asked before it is sent */
+        this.question = null;
         this.doubt = new Doubt(this);
         this.scans = what.scans ? new Scans(this) : null;
         this.busy = false;
-        this.typedSince = new Set(); // since it was sent
-        this.typed = new Set(); // since it was filled
+        /** @type {Set<string>} since it was sent */
+        this.typedSince = new Set();
+        /** @type {Set<string>} since it was filled */
+        this.typed = new Set();
         this.enteredSince = false;
         this.idle = Promise.resolve();
-        this.build();
-    }
-
-    build() {
-        const { what } = this;
         const [heading, message] = [freshId('form'), freshId('message')];
         this.message = make('p', { class: 'fault', id: message });
         this.result = make('p', { class: 'result' });
@@ -53,32 +52,32 @@ export class Form {
         this.scans?.element);
     }
 
+    /** @param {What['fields'][number]} field */
     field(field) {
-        const made = fieldOf(field, this.draft(field.name), () => this.what.rate?.());
+        const made = fieldOf(field, sessionStorage.getItem(this.draftKey(field.name)), () => this.what.rate?.());
         this.inputs[field.name] = made.input;
         this.faults[field.name] = made.fault;
         return made.element;
     }
 
-    // A draft is kept by channel, view and form, so that a form of another day never takes it.
+    /** A draft is kept by channel, view and form, so that a form of another day never takes it.
+     * @param {string} name */
     draftKey(name) {
         return `${this.what.place}/${this.what.name}/${name}`;
     }
 
-    draft(name) {
-        return sessionStorage.getItem(this.draftKey(name));
-    }
-
-    // A question is about what stood in the fields, so a changed field takes it back.
+    /** A question is about what stood in the fields, so a changed field takes it back.
+     * @param {Event} event */
     wasTyped(event) {
-        const { name, type } = event.target;
-        if (name && type !== 'file') sessionStorage.setItem(this.draftKey(name), event.target.value);
+        const { name, type, value } = /** @type {HTMLInputElement} */ (event.target);
+        if (name && type !== 'file') sessionStorage.setItem(this.draftKey(name), value);
         this.typedSince.add(name);
         this.typed.add(name);
         if (this.question) this.withdraw();
         this.what.changed?.(name);
     }
 
+    /** @param {KeyboardEvent} event */
     key(event) {
         if (event.key !== 'Escape' || !this.question) return;
         event.preventDefault();
@@ -93,12 +92,14 @@ export class Form {
         if (had) this.submit.focus();
     }
 
-    // Fields as they are proposed: nothing that was said goes by it.
+    /** Fields as they are proposed: nothing that was said goes by it.
+     * @param {Values} values */
     put(values) {
-        for (const [name, value] of Object.entries(values)) this.inputs[name].value = value;
+        for (const [name, value] of Object.entries(values)) fillField(this.inputs[name], value);
     }
 
-    // Fills fields from elsewhere, as from a row that was chosen.
+    /** Fills fields from elsewhere, as from a row that was chosen.
+     * @param {Values} values */
     fill(values) {
         this.put(values);
         for (const [name, value] of Object.entries(values)) {
@@ -108,7 +109,8 @@ export class Form {
         this.clearFaults();
     }
 
-    // Fills fields as another row is chosen: what was done by the form is said still.
+    /** Fills fields as another row is chosen: what was done by the form is said still.
+     * @param {Values} values */
     offer(values) {
         const words = this.result.textContent;
         this.fill(values);
@@ -127,22 +129,27 @@ export class Form {
         }
     }
 
-    // A file that was dropped is as if it was chosen.
+    /** A file that was dropped is as if it was chosen.
+     * @param {string} name @param {FileList} files */
     drop(name, files) {
-        this.inputs[name].files = files;
+        /** @type {HTMLInputElement} */ (this.inputs[name]).files = files;
         this.clearFaults();
     }
 
+    /** @param {string | undefined} name of the field, if it is about one @param {string} words */
     fault(name, words) {
         this.scans?.became('refused', words);
-        const place = this.faults[name] ?? this.message;
+        const place = this.faults[name ?? ''] ?? this.message;
         place.textContent = words;
-        this.inputs[name]?.setAttribute('aria-invalid', 'true');
-        (this.inputs[name] ?? this.submit).focus();
+        const input = this.inputs[name ?? ''];
+        input?.setAttribute('aria-invalid', 'true');
+        (input ?? this.submit).focus();
         announce(words);
     }
 
+    /** @param {Object<string, { value: string }>} inputs @returns {Values | null} */
     values(inputs) {
+        /** @type {Values} */
         const values = {};
         for (const field of this.what.fields) {
             try {
@@ -156,7 +163,8 @@ export class Form {
         return values;
     }
 
-    // What is typed and entered while the form is busy is done behind that; scan: one that waited.
+    /** What is typed and entered while the form is busy is done behind that.
+     * @param {Event | null} event @param {import('./scans.js').Scan | null} scan one that waited */
     async pressed(event = null, scan = null) {
         event?.preventDefault();
         if (this.busy) {
@@ -168,8 +176,8 @@ export class Form {
         if (!this.doubt.values) this.scans?.begin(scan);
         const inDoubt = this.doubt.values && this.typedSince.size > 0;
         if (!this.doubt.values && !scan) this.typedSince.clear();
-        const at = this.inputs[this.what.next];
-        if (!scan && at === document.activeElement) at.select();
+        const at = this.inputs[this.what.next ?? ''];
+        if (!scan && at && at === document.activeElement) focusOn(at);
         await this.working(async () => {
             // What stands in the fields once a doubt is settled is the next thing, where it was typed since.
             if (this.doubt.values) {
@@ -192,7 +200,8 @@ export class Form {
         });
     }
 
-    // Whether a look at the values, or at the office, found nothing against them.
+    /** Whether a look at the values, or at the office, found nothing against them.
+     * @param {() => unknown} look */
     async holds(look) {
         try {
             await look();
@@ -204,7 +213,8 @@ export class Form {
         }
     }
 
-    // What can't be undone isn't confirmed by the key that asked: the focus goes to what takes it back.
+    /** What can't be undone isn't confirmed by the key that asked: the focus goes to what takes it back.
+     * @param {string} question @param {Values} values */
     ask(question, values) {
         this.message.textContent = question;
         const sure = button(this.what.word, () => this.working(() => this.confirmed(values)), { class: 'sure' });
@@ -215,13 +225,15 @@ export class Form {
         announce(question);
     }
 
+    /** @param {Values} values */
     async confirmed(values) {
         this.clearFaults();
-        if (this.what.check && !await this.holds(() => this.what.check(values))) return;
+        if (!await this.holds(() => this.what.check?.(values))) return;
         await this.send(values);
     }
 
-    // One thing at a time: what is pressed meanwhile is left, and what must come behind it waits for `idle`.
+    /** One thing at a time: what is pressed meanwhile is left, and what must come behind it waits for `idle`.
+     * @param {() => unknown} does */
     async working(does) {
         if (this.busy) return;
         this.setBusy(true);
@@ -233,13 +245,15 @@ export class Form {
             }
         })();
         await this.idle;
-        const [entered, scan] = [this.enteredSince, this.scans?.next()];
+        const [entered, scan] = [this.enteredSince, this.scans?.next() ?? null];
         this.enteredSince = false;
         if (entered || scan) await this.pressed(null, scan);
     }
 
+    /** @param {Values} values */
     async send(values) {
-        const answer = await this.what.run?.(values) ?? await this.sent(values);
+        const outcome = await this.what.run?.(values) ?? await sent(this.what, values);
+        const answer = /** @type {import('./requests.js').Answer | Settled} */ (outcome);
         if (answer.kind === 'done') await this.wasDone(this.what.done(answer, values), values, answer);
         else if (answer.kind === 'lost') this.doubt.begin(answer, values);
         else if (answer.kind === 'refused') await this.wasRefused(answer, values);
@@ -247,31 +261,22 @@ export class Form {
         else this.fault('', answer.words);
     }
 
-    async sent(values) {
-        let answer = null;
-        const all = [];
-        for (const message of this.what.messages?.(values) ?? [this.what.message(values)]) {
-            answer = await change(message.path, message.body);
-            if (answer.kind === 'refused') answer = { ...answer, ...message.refusedAs?.(answer) };
-            if (answer.kind !== 'done') break;
-            all.push(answer.value);
-        }
-        return { ...answer, all };
-    }
-
+    /** @param {boolean} busy */
     setBusy(busy) {
         this.busy = busy;
         this.element.setAttribute('aria-busy', String(busy));
         this.submit.setAttribute('aria-disabled', String(busy));
     }
 
+    /** @param {string} words @param {Values} values @param {import('./requests.js').Answer | null} answer */
     async wasDone(words, values, answer = null) {
         this.doubt.values = null;
         for (const field of this.what.fields) {
             if (this.typedSince.has(field.name)) continue;
             this.typed.delete(field.name);
             sessionStorage.removeItem(this.draftKey(field.name));
-            if (!field.stays) this.inputs[field.name].value = field.fresh?.() ?? field.value ?? this.firstOption(field);
+            const next = field.fresh?.() ?? field.value ?? field.options?.[0]?.[0] ?? '';
+            if (!field.stays) fillField(this.inputs[field.name], next);
         }
         this.clearFaults();
         this.result.textContent = words;
@@ -281,19 +286,12 @@ export class Form {
         if (this.what.next && !this.typedSince.has(this.what.next)) focusOn(this.inputs[this.what.next]);
     }
 
-    firstOption(field) {
-        return field.kind === 'select' ? field.options[0][0] : '';
-    }
-
+    /** @param {Refused} refusal @param {Values} values */
     async wasRefused(refusal, values) {
         const words = refusal.words ?? sentenceOf(refusal, this.what.lines);
         this.fault(fieldRefused(refusal, this.inputs, values, this.what.rate?.()), words);
         await this.what.refused?.(refusal, values);
-        if (this.what.asked && MAY_BE_DONE.includes(refusal.code)) await this.maybeDone(values);
-    }
-
-    // Where a connection breaks, a browser may send a request again by itself: then the refusal tells that it was done.
-    async maybeDone(values) {
+        if (!this.what.asked || !mayBeDone(refusal, 'form')) return;
         const found = await this.what.asked(values);
         if (found.done) this.result.textContent = `The office has it as you typed it: ${found.words}`;
     }

@@ -5,7 +5,8 @@ import { packed, unpacked } from './edits.js';
 import { kept, put } from './tab.js';
 
 /** @typedef {import('./edits.js').Change} Change */
-/** @typedef {{ words: string, out: any[], add: any[] }} Entry */
+/** @typedef {import('./edits.js').Packed} Packed */
+/** @typedef {{ words: string, out: Packed[], add: Packed[] }} Entry */
 
 const MOST = 50;
 const MOST_ITEMS = 20000;

@@ -1,166 +1,39 @@
 // A list of any number of rows, of which only those in view are elements. It is a grid to a screen reader, and goes by
 // the arrow keys; the row that is active is said through aria-activedescendant.
 
-import { make, freshId, oncePerFrame } from './dom.js';
-import { Columns, rem } from './list-columns.js';
+import { targetOf } from './dom.js';
+import { DrawnList } from './list-drawn.js';
 
-const SPARE = 4;
-const SETTLES = 150;
+/** @typedef {import('./list-columns.js').ListRow} ListRow */
+/** @typedef {'' | 'range' | 'one more'} How a row is chosen: alone, all from the one before, or beside others */
+/** What hears what is done with rows.
+ * @template R @typedef {{ choose?: (row: R) => unknown, open?: (row: R, withShift: boolean) => unknown,
+ *     remove?: (row: R | null) => unknown, drag?: (row: R, event: PointerEvent) => unknown,
+ *     select?: (rows: R[]) => unknown }} Hears */
 
-function rowHeight() {
-    const row = getComputedStyle(document.documentElement).getPropertyValue('--row');
-    return Math.round((parseFloat(row) || 1.85) * rem());
+/** The element of the row at which an event happened.
+ * @param {Event} event @returns {HTMLElement | null} */
+function rowOf(event) {
+    return targetOf(event).closest('.list-row');
 }
 
-export class List {
-    // columns: { name, width, text(row), align, mark(row), sort(row) }; hears: choose(row), open(row), remove(row),
-    // drag(row, event), select(rows); several: more than one row may be chosen
+/** @template {ListRow} R @extends {DrawnList<R>} */
+export class List extends DrawnList {
+    /** @param {string} label @param {import('./list-columns.js').Column<R>[]} columns @param {Hears<R>} hears
+     * @param {boolean} several more than one row may be chosen */
     constructor(label, columns, hears = {}, several = false) {
-        this.hears = /** @type {any} */ (hears);
-        this.several = several;
-        this.rows = [];
-        this.all = [];
-        this.active = -1;
-        this.selected = new Set();
-        this.id = freshId('list');
-        this.drawn = new Map();
-        this.spare = [];
-        this.height = rowHeight();
-        this.later = oncePerFrame(() => this.draw());
-        this.columns = new Columns(label, columns, () => this.arranged());
-        this.build(label);
-    }
-
-    build(label) {
-        this.space = make('div', { class: 'list-space', role: 'rowgroup' });
-        const looks = { class: 'list-scroll', role: 'presentation', 'data-empty': 'Loading...' };
-        this.scroll = make('div', looks, this.space);
-        this.heads = make('div', { role: 'rowgroup', class: 'list-heads' }, this.columns.element);
-        this.element = make('div', {
-            role: 'grid', class: 'list', tabindex: 0, 'aria-label': label, 'aria-multiselectable': this.several || null,
-            'aria-colcount': this.columns.columns.length, 'aria-busy': 'true',
-        }, this.heads, this.scroll);
-        this.scroll.addEventListener('scroll', () => {
-            this.heads.scrollLeft = this.scroll.scrollLeft;
-            this.later();
-        });
+        super(label, columns, several);
+        this.hears = hears;
+        /** @type {R['key'] | undefined} */
+        this.anchor = undefined;
         this.element.addEventListener('keydown', (event) => this.key(event));
         this.space.addEventListener('click', (event) => this.click(event));
-        this.space.addEventListener('dblclick', () => this.open());
+        this.space.addEventListener('dblclick', (event) => this.double(event));
         this.space.addEventListener('pointerdown', (event) => this.press(event));
         this.space.addEventListener('pointerover', (event) => this.hint(event));
-        new ResizeObserver(() => this.resized()).observe(this.scroll);
-        this.space.style.minWidth = this.columns.least;
     }
 
-    show(rows, emptyWords = 'Nothing here.') {
-        this.all = rows;
-        this.emptyWords = emptyWords;
-        this.element.setAttribute('aria-busy', 'false');
-        this.arranged();
-    }
-
-    // Rows in the order of the column that they are sorted by; the active one stays so.
-    arranged() {
-        const kept = this.rows[this.active]?.key;
-        this.rows = this.columns.inOrder(this.all);
-        this.active = kept === undefined ? -1 : this.rows.findIndex((row) => row.key === kept);
-        const keys = new Set(this.all.map((row) => row.key));
-        for (const key of this.selected) if (!keys.has(key)) this.selected.delete(key);
-        // An element keeps its row where it can, so that none changes under the pointer for nothing.
-        for (const [index, element] of this.drawn) {
-            if (index < this.rows.length) this.fill(element, index);
-            else {
-                this.spare.push(element);
-                this.drawn.delete(index);
-            }
-        }
-        this.space.style.height = `${this.rows.length * this.height}px`;
-        this.space.style.minWidth = this.columns.least;
-        this.element.setAttribute('aria-rowcount', this.rows.length + 1);
-        this.element.dataset.rows = this.rows.length;
-        this.scroll.dataset.empty = this.rows.length === 0 ? this.emptyWords ?? '' : '';
-        this.draw();
-        this.settle();
-    }
-
-    resized() {
-        const height = rowHeight();
-        if (height === this.height) this.later();
-        else {
-            this.height = height;
-            this.arranged();
-        }
-    }
-
-    draw() {
-        const begun = performance.now();
-        const { scrollTop, clientHeight } = this.scroll;
-        const first = Math.max(0, Math.floor(scrollTop / this.height) - SPARE);
-        const last = Math.min(this.rows.length, Math.ceil((scrollTop + clientHeight) / this.height) + SPARE);
-        for (const [index, element] of this.drawn) {
-            if (index < first || index >= last) {
-                this.spare.push(element);
-                this.drawn.delete(index);
-            }
-        }
-        for (let index = first; index < last; index += 1) {
-            if (!this.drawn.has(index)) this.drawn.set(index, this.fill(this.spare.pop() ?? this.fresh(), index));
-        }
-        for (const element of this.spare.splice(0)) element.remove();
-        clearTimeout(this.settling);
-        this.settling = setTimeout(() => this.settle(), SETTLES);
-        const active = this.drawn.has(this.active) ? `${this.id}-${this.active}` : null;
-        if (active) this.element.setAttribute('aria-activedescendant', active);
-        else this.element.removeAttribute('aria-activedescendant');
-        this.element.dataset.drawn = this.drawn.size;
-        this.element.dataset.took = (performance.now() - begun).toFixed(2);
-    }
-
-    // Once it stands still, the elements stand in the order of their rows, as a screen reader goes through them.
-    settle() {
-        const rows = [...this.drawn.keys()].sort((one, other) => one - other).map((index) => this.drawn.get(index));
-        if (rows.some((element, place) => this.space.children[place] !== element)) this.space.replaceChildren(...rows);
-    }
-
-    fresh() {
-        const cells = this.columns.columns.map((column, place) => make('div', {
-            role: 'gridcell', 'aria-colindex': place + 1,
-        }, ''));
-        return this.space.appendChild(make('div', { role: 'row' }, ...cells));
-    }
-
-    // Rows that went out of view are filled with those that came into it.
-    fill(element, index) {
-        const row = this.rows[index];
-        this.columns.columns.forEach((column, place) => {
-            const cell = element.children[place];
-            cell.className = `${column.align ?? 'left'} ${column.mark?.(row) ?? ''}`;
-            cell.textContent = String(column.text(row));
-            cell.removeAttribute('title');
-        });
-        element.id = `${this.id}-${index}`;
-        element.style.gridTemplateColumns = this.columns.template;
-        element.setAttribute('aria-rowindex', index + 2);
-        element.dataset.index = index;
-        element.dataset.key = row.key;
-        element.style.transform = `translateY(${index * this.height}px)`;
-        this.mark(element, index);
-        return element;
-    }
-
-    mark(element, index) {
-        const row = this.rows[index];
-        element.className = `list-row ${row.mark ?? ''} ${index === this.active ? 'active' : ''}`;
-        const chosen = this.several ? this.selected.has(row.key) : index === this.active;
-        element.setAttribute('aria-selected', chosen ? 'true' : 'false');
-    }
-
-    marks() {
-        for (const [index, element] of this.drawn) this.mark(element, index);
-    }
-
-    // `how`: nothing for this row alone, 'range' for all from the one that was chosen before, 'one more' beside others.
+    /** @param {number} index @param {boolean} tell @param {How} how */
     choose(index, tell = true, how = '') {
         if (this.rows.length === 0) return;
         this.active = Math.max(0, Math.min(this.rows.length - 1, index));
@@ -171,6 +44,7 @@ export class List {
         if (tell) this.hears.select?.(this.chosenRows());
     }
 
+    /** @param {How} how */
     selectBy(how) {
         const { key } = this.rows[this.active];
         if (how === 'range' && this.anchor !== undefined) {
@@ -185,14 +59,16 @@ export class List {
         this.anchor = key;
     }
 
-    // The row of a key, chosen and in view.
+    /** The row of a key, chosen and in view.
+     * @param {R['key']} key @param {boolean} tell */
     chooseKey(key, tell = false) {
         const index = this.rows.findIndex((row) => row.key === key);
         if (index >= 0) this.choose(index, tell);
         return index >= 0;
     }
 
-    // Rows by their keys, and none other.
+    /** Rows by their keys, and none other.
+     * @param {Iterable<R['key']>} keys */
     selectKeys(keys) {
         this.selected = new Set(keys);
         this.marks();
@@ -220,41 +96,71 @@ export class List {
         return this.rows.filter((row) => this.selected.has(row.key));
     }
 
-    open() {
+    open(withShift = false) {
         const row = this.chosen();
-        if (row) this.hears.open?.(row);
+        if (row) this.hears.open?.(row, withShift);
     }
 
+    /** @param {KeyboardEvent} event */
     key(event) {
         if (event.altKey || event.metaKey) return;
+        if (this.cells?.begunBy(event)) {
+            event.preventDefault();
+            return;
+        }
         const page = Math.max(1, Math.floor(this.scroll.clientHeight / this.height) - 1);
+        /** @type {Object<string, number>} */
         const moves = { ArrowDown: 1, ArrowUp: -1, PageDown: page, PageUp: -page, Home: -Infinity, End: Infinity };
         if (event.key in moves) this.choose(this.active + moves[event.key], true, event.shiftKey ? 'range' : '');
         else if (event.ctrlKey && event.key.toLowerCase() === 'a' && this.several) {
             this.selectKeys(this.rows.map((row) => row.key));
             this.hears.select?.(this.chosenRows());
         } else if (event.ctrlKey) return;
-        else if (event.key === 'Enter') this.open();
+        else if (event.key === 'Enter') this.open(event.shiftKey);
         else if (event.key === 'Delete' && (this.chosen() || this.selected.size > 0)) {
             this.hears.remove?.(this.chosen());
         } else if (!this.columns.key(event.key)) return;
+        if (this.cells) {
+            this.marks();
+            this.draw();
+        }
         event.preventDefault();
     }
 
+    /** @param {MouseEvent} event */
     click(event) {
-        const element = event.target.closest('.list-row');
+        const element = rowOf(event);
         const how = event.shiftKey ? 'range' : event.ctrlKey || event.metaKey ? 'one more' : '';
+        if (this.cells) this.columns.go(this.fieldAt(event));
         if (element) this.choose(Number(element.dataset.index), true, how);
     }
 
+    /** The field of the cell that a pointer is over, where it has one.
+     * @param {Event} event */
+    fieldAt(event) {
+        const place = Number(targetOf(event).closest('[role="gridcell"]')?.getAttribute('aria-colindex')) - 1;
+        return this.columns.columns[place]?.field;
+    }
+
+    /** @param {Event} event */
+    double(event) {
+        const row = this.chosen();
+        const field = this.fieldAt(event);
+        if (!row || field === undefined || !this.cells?.open(String(row.key), field)) this.open();
+    }
+
+    /** @param {PointerEvent} event */
     press(event) {
-        const element = event.target.closest('.list-row');
+        const element = rowOf(event);
         if (element && event.button === 0) this.hears.drag?.(this.rows[Number(element.dataset.index)], event);
     }
 
-    // A text that is cut off is told by a tooltip.
+    /** A text that is cut off is told by a tooltip.
+     * @param {Event} event */
     hint(event) {
-        const cell = event.target.closest('[role="gridcell"]');
-        if (cell && cell.scrollWidth > cell.clientWidth) cell.title = cell.textContent;
+        /** @type {HTMLElement | null} */
+        const cell = targetOf(event).closest('[role="gridcell"]');
+        const cut = [cell, cell?.querySelector('.stem')].some((each) => each && each.scrollWidth > each.clientWidth);
+        if (cell && cut) cell.title = cell.textContent ?? '';
     }
 }

@@ -3,6 +3,9 @@
 import { announce, button, clear, make } from './dom.js';
 import { List } from './list.js';
 
+/** @typedef {{ key: string, at: string, source: string, title: string, why: string }} Stay what can't come, and why */
+
+/** @type {import('./list-columns.js').Column<Stay>[]} */
 const COLUMNS = [
     { name: 'At', width: '7rem', text: (row) => row.at, mark: () => 'code' },
     { name: 'Source', width: '6rem', text: (row) => row.source, mark: () => 'code' },
@@ -20,7 +23,9 @@ export class Notice {
             this.list.element, this.buttons);
     }
 
-    // choices: [word, what it does]; the focus goes to the last one, which does least, and back to `behind`
+    /** The focus goes to the last choice, which does least, and back to `behind`.
+     * @param {string} words @param {Stay[]} rows @param {[string, () => unknown][]} choices each with what it does
+     * @param {HTMLElement} behind */
     show(words, rows, choices, behind) {
         const had = !this.element.hidden && this.words.textContent === words;
         this.element.hidden = false;
@@ -33,7 +38,7 @@ export class Notice {
             return does();
         })));
         announce(words);
-        this.buttons.lastElementChild?.focus();
+        /** @type {HTMLElement | null} */ (this.buttons.lastElementChild)?.focus();
     }
 
     hide() {

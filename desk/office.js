@@ -1,47 +1,51 @@
-// Requests to the office. Changes go one after another, in the order in which staff made them. A read waits for the
-// changes before it, and reads of one path are answered in their order; else they go side by side.
-//
-// An answer is { kind: 'done', text, value }, { kind: 'refused', code, refused, at } or { kind: 'lost', words }. Lost
-// means that no answer of the office came: what was asked for may have been done, or not.
+// The office as the desk asks it: how it is asked, what it answers, and whether it answers. requests.js has the order.
 
+import { Left, PATIENCE, Requests } from './requests.js';
 import { goesToLogin, leaving } from './sign-on.js';
 
-/** @typedef {{ kind: 'done', text: string, value: any }} Done */
-/** @typedef {{ kind: 'refused', code: number, refused: string, at?: string }} Refused */
-/** @typedef {{ kind: 'lost', words: string }} Lost */
-/** @typedef {Done | Refused | Lost} Answer */
+export { Left };
+
+/** @typedef {import('./requests.js').Answer} Answer */
+/** @typedef {import('./requests.js').Said} Said */
+/** @typedef {import('./requests.js').Body} Body */
+/** @typedef {'connected' | 'slow' | 'gone'} Connection */
+/** @typedef {(now: Connection, words: string, was: Connection) => void} Hearer */
 
 // The most bytes of a body.
 export const MOST_BYTES = 1000000;
 
-const PATIENCE = 70000; // A gateway gives an office a minute, and says so itself.
 const PAUSE = 3000;
-const SLOW = 3000;
 
-let turn = Promise.resolve(); // until the last change is through
-const reading = new Map(); // by path, until its last read is through
+/** @type {Connection} */
 let state = 'connected';
-let waiting = 0;
 let probe = '';
+/** @type {Set<Hearer>} */
 const hearers = new Set();
+const requests = new Requests(asked, heard);
 
-/** A view was left, so nobody wants what it asked for. */
-export class Left extends Error {}
-
-// hearer: (state, words), where the state is 'connected', 'slow' or 'gone'
+/** @param {Hearer} hearer */
 export function onConnection(hearer) {
     hearers.add(hearer);
 }
 
-// The channel by whose name the office is asked whether it is there: one that the gateway passes on.
+/** The channel by whose name the office is asked whether it is there: one that the gateway passes on.
+ * @param {number} channel */
 export function probeAs(channel) {
     probe = `/ch/${channel}/office`;
 }
 
 export function isBusy() {
-    return waiting > 0;
+    return requests.waiting > 0;
 }
 
+/** @param {'slow' | 'answered' | 'lost' | 'left'} what @param {string} words */
+function heard(what, words) {
+    if (what === 'lost') tell('gone', words);
+    else if (what === 'answered' || (what === 'left' && state === 'slow')) tell('connected');
+    else if (what === 'slow' && state === 'connected') tell('slow');
+}
+
+/** @param {Connection} now */
 function tell(now, words = '') {
     if (now === state) return;
     const was = state;
@@ -53,10 +57,11 @@ function tell(now, words = '') {
 // While it is lost, a path without a route is asked for: the office's own 404 changes nothing and reads nothing.
 async function tryAgain() {
     if (state !== 'gone') return;
-    const answer = await queued('GET', probe);
+    const answer = await requests.read(probe);
     if (answer.kind === 'lost') setTimeout(tryAgain, PAUSE);
 }
 
+/** @param {string} text */
 function parsed(text) {
     try {
         return JSON.parse(text);
@@ -65,8 +70,9 @@ function parsed(text) {
     }
 }
 
-// The office's refusals are JSON with a code, and so are the gateway's. A fault of the server's is none of them, but
-// 100, which says that nothing was changed, and 501: the gateway's 502 and 504 say that the office didn't answer.
+/** The office's refusals are JSON with a code, and so are the gateway's. A fault of the server's is none of them, but
+ * 100, which says that nothing was changed, and 501: the gateway's 502 and 504 say that the office didn't answer.
+ * @param {number} status @param {string} text @param {string | null} [type] @returns {Answer} */
 export function answerOf(status, text, type) {
     const value = parsed(text);
     const own = /^(text\/plain|application\/json)/.test(type ?? '');
@@ -78,60 +84,27 @@ export function answerOf(status, text, type) {
     return { kind: 'lost', words: `The server in front answered ${status}${name}` };
 }
 
-async function send(method, path, body, left) {
-    const patience = new AbortController();
-    const timer = setTimeout(() => patience.abort(), PATIENCE);
-    const slow = setTimeout(() => state === 'connected' && tell('slow'), SLOW);
-    const leave = () => patience.abort();
-    left?.addEventListener('abort', leave);
-    let answer;
-    try {
-        const response = await fetch(path, { method, body, signal: patience.signal, cache: 'no-store' });
-        if (goesToLogin(response)) return await leaving();
-        answer = answerOf(response.status, await response.text(), response.headers.get('Content-Type'));
-    } catch (fault) {
-        answer = { kind: 'lost', words: patience.signal.aborted ? 'No answer in a minute' : 'No connection' };
-    } finally {
-        clearTimeout(timer);
-        clearTimeout(slow);
-        left?.removeEventListener('abort', leave);
-    }
-    if (left?.aborted) {
-        if (state === 'slow') tell('connected');
-        throw new Left();
-    }
-    tell(answer.kind === 'lost' ? 'gone' : 'connected', answer.words);
-    return answer;
+/** @param {string} method @param {string} path @param {Body | undefined} body @param {AbortSignal} signal */
+async function asked(method, path, body, signal) {
+    const response = await fetch(path, { method, body, signal, cache: 'no-store' });
+    if (goesToLogin(response)) return leaving();
+    return answerOf(response.status, await response.text(), response.headers.get('Content-Type'));
 }
 
-/** @returns {Promise<any>} */
-function queued(method, path, body, left) {
-    waiting += 1;
-    const isRead = method === 'GET';
-    const before = isRead ? Promise.all([turn, reading.get(path)]) : turn;
-    const asked = before.then(() => {
-        if (left?.aborted) throw new Left();
-        return send(method, path, body, left);
-    }).finally(() => { waiting -= 1; });
-    const ended = asked.catch(() => null);
-    if (!isRead) turn = ended;
-    else {
-        reading.set(path, ended);
-        ended.then(() => { if (reading.get(path) === ended) reading.delete(path); });
-    }
-    return asked;
-}
-
-function bytesOf(body) {
-    return typeof body === 'string' || body instanceof Uint8Array ? body : JSON.stringify(body);
+/** A page of the web server in front, which is waited for as long as the office is.
+ * @param {string} path */
+export function page(path) {
+    const given = new AbortController();
+    setTimeout(() => given.abort(), PATIENCE);
+    return fetch(path, { cache: 'no-store', signal: given.signal });
 }
 
 // What a view reads, and gives up as it is left.
 export class Scope {
     constructor() {
         this.control = new AbortController();
-        /** @returns {Promise<any>} */
-        this.read = (path) => queued('GET', path, undefined, this.control.signal);
+        /** @param {string} path */
+        this.read = (path) => requests.read(path, this.control.signal);
     }
 
     get gone() {
@@ -143,8 +116,9 @@ export class Scope {
     }
 }
 
-/** A change is one message, and isn't given up. A value is sent as JSON, a text or a file's bytes as they are.
- * @returns {Promise<any>} */
-export function change(path, body = /** @type {any} */ ('')) {
-    return queued('POST', path, bytesOf(body));
+/** A change is one message. A value is sent as JSON, a text or a file's bytes as they are.
+ * @param {string} path @param {string | Uint8Array | object} body @returns {Promise<Answer>} */
+export function change(path, body = '') {
+    const isBody = typeof body === 'string' || body instanceof Uint8Array;
+    return requests.change(path, isBody ? body : JSON.stringify(body));
 }

@@ -1,7 +1,7 @@
 // Lists of an editing system name their sources by tape or AX, and by the clip's name in a note. Here each of them is
 // brought together with a clip of the channel, so that the list can be sent with reels that the office knows.
 
-import { frameAt } from './timecode.js';
+import { frameAt, labelOf } from './timecode.js';
 import { isForPicture, isSpeed, framesOf } from './edl.js';
 
 /** @typedef {import('./edl.js').EditEvent} EditEvent */
@@ -11,6 +11,9 @@ import { isForPicture, isSpeed, framesOf } from './edl.js';
 /** @typedef {{ key: string, reel: string, name: string, events: EditEvent[], uses: number }} Wanted */
 /** @typedef {{ reel: string, title: string, how: string, shift: number }} Proposal shift: what is added to the list's
  *     source labels, so that they are the clip's */
+
+// What stands for a source whose events are left out.
+export const LEFT_OUT = '-';
 
 const PLAIN = new Map([['BL', 'BL'], ['BLACK', 'BL'], ['BARS', 'BARS']]);
 
@@ -51,10 +54,52 @@ export function wantedOf(events) {
  * @param {EditEvent[]} events @param {Candidate} clip @param {Rate} rate @param {boolean} ignore */
 function shiftOf(events, clip, rate, ignore) {
     const first = frameAt(clip.first, rate);
-    const fits = (/** @type {number} */ shift) => events.every((event) => event.source + shift >= first
+    if (fits(events, clip, 0, rate, ignore)) return 0;
+    return fits(events, clip, first, rate, ignore) ? first : null;
+}
+
+/** @param {EditEvent[]} events @param {Candidate} clip @param {number} shift @param {Rate} rate
+ * @param {boolean} ignore */
+function fits(events, clip, shift, rate, ignore) {
+    const first = frameAt(clip.first, rate);
+    return events.every((event) => event.source + shift >= first
         && event.source + shift + framesOf(event, ignore) <= first + clip.frames);
-    if (fits(0)) return 0;
-    return fits(first) ? first : null;
+}
+
+/** Any clip that staff choose: with the list's labels, or its first frame where the list begins to use it.
+ * @param {Wanted} wanted @param {Candidate} clip @param {Rate} rate @param {boolean} ignore @returns {Proposal} */
+export function choiceOf(wanted, clip, rate, ignore) {
+    const least = Math.min(...wanted.events.map((event) => event.source));
+    const shift = shiftOf(wanted.events, clip, rate, ignore) ?? frameAt(clip.first, rate) - least;
+    return { reel: clip.reel, title: clip.title, how: 'chosen', shift };
+}
+
+/** The clip's frame at which the list begins to use it.
+ * @param {Wanted} wanted @param {number} shift @param {Rate} rate */
+export function firstLabel(wanted, shift, rate) {
+    return labelOf(Math.min(...wanted.events.map((event) => event.source)) + shift, rate);
+}
+
+/** That a clip hasn't all the frames that the list shows of it, or ''.
+ * @param {Wanted} wanted @param {Candidate} clip @param {number} shift @param {Rate} rate @param {boolean} ignore */
+export function missingWords(wanted, clip, shift, rate, ignore) {
+    if (fits(wanted.events, clip, shift, rate, ignore)) return '';
+    const end = Math.max(...wanted.events.map((event) => event.source + framesOf(event, ignore))) + shift;
+    const has = frameAt(clip.first, rate);
+    return `The list shows ${firstLabel(wanted, shift, rate)} to ${labelOf(end, rate)}; the clip has ${clip.first} to `
+        + `${labelOf(has + clip.frames, rate)}.`;
+}
+
+/** What is kept of a choice for the next list, and what was kept read again: a reel, and by how much labels move.
+ * @param {Proposal} choice */
+export function keptOf(choice) {
+    return `${choice.reel} ${choice.shift}`;
+}
+
+/** @param {string | undefined} text @returns {{ reel: string, shift: number | null }} */
+function readKept(text) {
+    const [reel, shift] = (text ?? '').split(' ');
+    return { reel, shift: shift === undefined ? null : Number(shift) };
 }
 
 /** The clips that a source may be, the likeliest first: the one of the kept mapping, those of its title, those of the
@@ -74,7 +119,11 @@ export function proposalsOf(wanted, clips, rate, ignore, kept) {
     };
     const title = wanted.name.toUpperCase();
     const named = wanted.reel.toUpperCase();
-    offer(clips.filter((clip) => clip.reel === kept[wanted.key]), 'kept');
+    const before = readKept(kept[wanted.key]);
+    const own = clips.find((clip) => clip.reel === before.reel);
+    if (own && before.shift !== null && fits(wanted.events, own, before.shift, rate, ignore)) {
+        found.push({ reel: own.reel, title: own.title, how: 'kept', shift: before.shift });
+    } else offer(own ? [own] : [], 'kept');
     offer(clips.filter((clip) => clip.reel === named), 'reel');
     if (title) offer(clips.filter((clip) => clip.title.toUpperCase() === title), 'title');
     offer(clips.filter((clip) => clip.barcode !== '' && clip.barcode === named), 'barcode');
@@ -88,30 +137,30 @@ export function isOpenChoice(proposals) {
     return proposals.length === 0 || (proposals.length > 1 && proposals[0].how === proposals[1].how);
 }
 
-/** The first event that no list can have relinked, by the office's number, or null.
- * @param {EditEvent[]} events @param {boolean} ignore */
-export function refusedEvent(events, ignore) {
-    for (const event of events) {
-        if (event.kind === 'K') return { line: event.line, code: 85 };
-        if (isSpeed(event)) return { line: event.line, code: 84 };
-        if (!ignore && event.sourceFrames !== event.frames) return { line: event.line, code: 28 };
-    }
-    return null;
+/** The events that no list can have relinked, by the office's numbers.
+ * @param {EditEvent[]} events @param {boolean} ignore @returns {{ line: number, code: number }[]} */
+export function refusedEvents(events, ignore) {
+    const codeOf = (/** @type {EditEvent} */ event) => {
+        if (event.kind === 'K') return 85;
+        if (isSpeed(event)) return 84;
+        return !ignore && event.sourceFrames !== event.frames ? 28 : 0;
+    };
+    return events.map((event) => ({ line: event.line, code: codeOf(event) })).filter(({ code }) => code !== 0);
 }
 
-/** The items of a list, each with the clip that was chosen for its source.
+/** The items of a list, each with the clip that was chosen for its source; those of a source without one are left out.
  * @param {EditEvent[]} events @param {Map<string, Proposal>} chosen by key @param {number} start the day's
  * @param {Rate} rate @param {boolean} ignore @returns {Piece[]} */
 export function relinked(events, chosen, start, rate, ignore) {
-    return events.map((event) => {
+    return events.flatMap((event) => {
         const plain = PLAIN.get(event.reel);
         const choice = chosen.get(`${event.reel}\t${nameOf(event).toUpperCase()}`);
         const place = (event.record - start + rate.day) % rate.day;
         const kind = { kind: event.kind, mix: event.mix };
-        if (plain) return { place, frames: framesOf(event, ignore), source: plain, from: 0, ...kind };
-        return {
-            place, frames: framesOf(event, ignore), source: choice?.reel ?? event.reel,
-            from: event.source + (choice?.shift ?? 0), ...kind,
-        };
+        if (plain) return [{ place, frames: framesOf(event, ignore), source: plain, from: 0, ...kind }];
+        if (!choice) return [];
+        return [{
+            place, frames: framesOf(event, ignore), source: choice.reel, from: event.source + choice.shift, ...kind,
+        }];
     });
 }

@@ -1,26 +1,34 @@
 // A list of an editing system, whose reels are tapes or AX: each of its sources is brought together with a clip, and
 // what is imported is the list in the office's own form. What was chosen is kept in the browser for the next list.
 
-import { announce, button, clear, counted, freshId, make, options, say } from './dom.js';
+import { announce, button, clear, counted, make, say } from './dom.js';
 import { FieldFault, bytesOf } from './fields.js';
 import { vaultOf, clipsOf, lentOf } from './tables.js';
-import { readList, listOf } from './edl.js';
-import { plannedOf, wantedOf, proposalsOf, isOpenChoice, refusedEvent, relinked } from './relink-model.js';
+import { placed } from './day-list-forms.js';
+import { listOf } from './edl.js';
+import { faultSentence, faultWords, moreWords } from './fault-words.js';
+import { readAll } from './list-faults.js';
+import {
+    LEFT_OUT, plannedOf, wantedOf, proposalsOf, isOpenChoice, keptOf, refusedEvents, relinked,
+} from './relink-model.js';
+import { RelinkRow } from './relink-row.js';
 import { isForDay } from './lent-days.js';
-import { sentenceOf } from './refusals.js';
+import { areDone } from './requests.js';
 
-// Why a clip is proposed.
-const HOW = {
-    kept: 'as the last time', reel: 'by its reel', title: 'by its title', barcode: 'by barcode and label',
-    begins: 'by how its title begins',
-};
+/** @typedef {import('./relink-model.js').Wanted} Wanted */
+/** @typedef {import('./relink-model.js').Proposal} Proposal */
 
 export class Relink {
+    /** @param {import('./view-day.js').DayView} view */
     constructor(view) {
         this.view = view;
         this.key = `desk/relink/${view.desk.channel}`;
-        /** @type {{ name: string, title: string, ignore: boolean, events: any[] }} */
+        /** @type {{ name: string, title: string, ignore: boolean, events: import('./edl.js').EditEvent[] }} */
         this.read = { name: '', title: '', ignore: false, events: [] };
+        /** @type {RelinkRow[]} */
+        this.rows = [];
+        /** @type {Map<string, any>} by the keys of what is wanted */
+        this.chosen = new Map();
         this.words = make('p', {});
         this.fault = make('p', { class: 'fault' });
         this.table = make('table', { class: 'relink' });
@@ -38,13 +46,14 @@ export class Relink {
         return JSON.parse(localStorage.getItem(this.key) ?? '{}');
     }
 
-    async begin(file, mode) {
+    /** @param {File | undefined} file @param {string} mode @param {string} where */
+    async begin(file, mode, where) {
         const { view } = this;
         const input = view.forms.list;
         input.clearFaults();
         try {
-            const bytes = await bytesOf(file);
-            this.read = this.listOf(file.name, new TextDecoder().decode(bytes), mode === 'ignore');
+            const bytes = placed(view, await bytesOf(file), mode, where);
+            this.read = this.listOf(file?.name ?? '', bytes, mode === 'ignore');
         } catch (fault) {
             if (!(fault instanceof FieldFault)) throw fault;
             input.fault('file', fault.message);
@@ -53,16 +62,17 @@ export class Relink {
         await this.offer();
     }
 
-    // The events of the list, or its first fault with its line.
-    listOf(name, text, ignore) {
+    /** The events of the list, or all its faults with their lines.
+     * @param {string} name @param {Uint8Array} bytes @param {boolean} ignore */
+    listOf(name, bytes, ignore) {
         const { view } = this;
-        const { title, events, fault } = readList(text, view.day.rate);
+        const { title, events, faults } = readAll(bytes, view.day.rate);
         const planned = plannedOf(events, ignore);
-        const refused = fault ?? refusedEvent(planned, ignore);
-        if (!refused) return { name, title, ignore, events: planned };
-        const at = `${refused.line}${'label' in refused ? ` ${refused.label}` : ''}`;
-        const words = sentenceOf({ code: refused.code, at });
-        view.text.show(name, text, refused.line, words);
+        const refused = [...faults, ...refusedEvents(planned, ignore)].sort((one, other) => one.line - other.line);
+        if (refused.length === 0) return { name, title, ignore, events: planned };
+        const words = `${faultSentence(refused[0])}${moreWords(refused.length - 1, counted)}`;
+        view.text.show(name, new TextDecoder().decode(bytes), refused[0].line, words,
+            refused.map((fault) => ({ line: fault.line, words: faultWords(fault) })));
         throw new FieldFault(words, 'file');
     }
 
@@ -70,9 +80,9 @@ export class Relink {
     async candidates() {
         const { view } = this;
         const root = `/ch/${view.desk.channel}`;
-        const answers = [];
-        for (const table of ['tapes', 'clips', 'lent']) answers.push(await view.scope.read(`${root}/${table}`));
-        if (answers.some((answer) => answer.kind !== 'done')) return null;
+        const tables = ['tapes', 'clips', 'lent'];
+        const answers = await Promise.all(tables.map((table) => view.scope.read(`${root}/${table}`)));
+        if (!areDone(answers)) return null;
         const barcodes = new Map(vaultOf(answers[0].text).tapes.map((tape) => [tape.number, tape.barcode]));
         const own = clipsOf(answers[1].text).filter((clip) => clip.state === 'active')
             .map((clip) => ({ ...clip, barcode: barcodes.get(clip.tape) ?? '' }));
@@ -88,49 +98,47 @@ export class Relink {
             return;
         }
         const kept = this.kept();
+        const { rate } = this.view.day;
         this.rows = wantedOf(this.read.events).map((wanted) => {
-            const proposals = proposalsOf(wanted, clips, this.view.day.rate, this.read.ignore, kept);
-            return { wanted, proposals, select: this.select(wanted, proposals) };
+            const proposals = proposalsOf(wanted, clips, rate, this.read.ignore, kept);
+            // Where two clips fit as well, nothing is chosen for staff.
+            const value = kept[wanted.key] === LEFT_OUT ? LEFT_OUT : isOpenChoice(proposals) ? '' : proposals[0].reel;
+            return new RelinkRow(wanted, proposals, value, clips, rate, this.read.ignore);
         });
-        const heads = ['Reel in the list', 'Its name', 'Events', 'Is the clip'];
+        const heads = ['Reel in the list', 'Its name', 'Events', 'Is the clip', 'First frame'];
         clear(this.table, make('tr', {}, ...heads.map((word) => make('th', { scope: 'col' }, word))),
-            ...this.rows.map((row) => make('tr', {}, make('td', { class: 'code' }, row.wanted.reel),
-                make('td', {}, row.wanted.name || '-'), make('td', { class: 'right' }, String(row.wanted.uses)),
-                make('td', {}, row.select))));
+            ...this.rows.map((row) => row.element));
         this.element.hidden = false;
-        const open = this.rows.filter((row) => row.select.value === '').length;
+        const open = this.rows.filter((row) => row.isOpen).length;
         const [events, sources] = [counted(this.read.events.length, 'event'), counted(this.rows.length, 'source')];
         this.words.textContent = `${this.read.name}: ${events} of ${sources}. `
             + `${open === 0 ? 'A clip fits each of them.' : `${counted(open, 'source')} to be chosen.`}`;
         this.fault.textContent = '';
         announce(this.words.textContent);
-        (this.rows.find((row) => row.select.value === '')?.select ?? this.send).focus();
-    }
-
-    // Where two clips fit as well, nothing is chosen for staff.
-    select(wanted, proposals) {
-        const select = make('select', { id: freshId('relink'), 'data-reel': wanted.reel, 'data-name': wanted.name,
-            'aria-label': `The clip of ${wanted.reel} ${wanted.name}` },
-        ...options([['', proposals.length === 0 ? 'no clip fits' : 'choose'], ...proposals.map((each) => [each.reel,
-            `${each.reel} ${each.title} (${HOW[each.how]}${each.shift === 0 ? '' : ', from its first frame'})`])]));
-        if (!isOpenChoice(proposals)) select.value = proposals[0].reel;
-        return select;
+        (this.rows.find((row) => row.isOpen)?.select ?? this.send).focus();
     }
 
     pieces() {
-        const open = this.rows.find((row) => row.select.value === '');
-        if (open) {
-            this.fault.textContent = `Choose the clip of ${open.wanted.reel} ${open.wanted.name} first.`;
-            announce(this.fault.textContent);
-            open.select.focus();
-            return null;
-        }
-        const chosen = new Map(this.rows.map((row) => [row.wanted.key,
-            row.proposals.find((each) => each.reel === row.select.value)]));
+        const open = this.rows.find((row) => row.isOpen);
+        if (open) return this.asks(`Choose the clip of ${open.wanted.reel} ${open.wanted.name} first.`, open.select);
+        const rows = this.rows.filter((row) => row.value !== LEFT_OUT);
+        this.chosen = new Map(rows.map((row) => [row.wanted.key, row.read()]));
+        const bad = rows.find((row) => !this.chosen.get(row.wanted.key));
+        if (bad) return this.asks(bad.fault.textContent ?? '', bad.first);
         const { rate, start } = this.view.day;
-        return relinked(this.read.events, chosen, start, rate, this.read.ignore);
+        const pieces = relinked(this.read.events, this.chosen, start, rate, this.read.ignore);
+        return pieces.length > 0 ? pieces : this.asks('All of its events are left out.', this.send);
     }
 
+    /** @param {string} words @param {HTMLElement} element */
+    asks(words, element) {
+        this.fault.textContent = words;
+        announce(words);
+        element.focus();
+        return null;
+    }
+
+    /** @param {import('./edits.js').Piece[]} pieces */
     text(pieces) {
         const { rate, start } = this.view.day;
         return listOf(this.read.title || 'RELINKED', pieces, start, rate,
@@ -147,7 +155,10 @@ export class Relink {
         if (!pieces) return;
         if (this.keep.checked) {
             const kept = this.kept();
-            for (const row of this.rows) kept[row.wanted.key] = row.select.value;
+            for (const { wanted } of this.rows) {
+                const choice = this.chosen.get(wanted.key);
+                kept[wanted.key] = choice ? keptOf(choice) : LEFT_OUT;
+            }
             localStorage.setItem(this.key, JSON.stringify(kept));
         }
         const words = `${counted(pieces.length, 'item')} of ${this.read.name} imported`;

@@ -7,27 +7,34 @@ import { clear, make } from './dom.js';
 const SHOWN = 12;
 const WORDS = { waiting: 'waits', sent: 'is sent', done: 'done', refused: 'refused', lost: 'no answer' };
 
+/** @typedef {'waiting' | 'sent' | 'done' | 'refused' | 'lost'} State */
+/** typed: what stood in the fields, by their names, where it waited.
+ * @typedef {{ text: string, state: State, typed: Object<string, string> | null, words: string }} Scan */
+
 export class Scans {
-    // form: with what.next, the field that is scanned into
+    /** @param {import('./form.js').Form} form with what.next, the field that is scanned into */
     constructor(form) {
         this.form = form;
+        this.into = form.what.next ?? '';
+        /** @type {Scan[]} */
         this.lines = [];
+        /** @type {Scan | null} */
         this.now = null;
         this.element = make('ol', { class: 'scans', hidden: true, 'aria-label': `Scans: ${form.what.title}` });
     }
 
     // What is entered while the form is busy. Of the other fields what staff typed goes along.
     take() {
-        const { form } = this;
-        const { next } = form.what;
-        const text = form.inputs[next].value.trim();
-        if (text === '' || !form.typedSince.has(next)) return;
+        const { form, into } = this;
+        const text = form.inputs[into].value.trim();
+        if (text === '' || !form.typedSince.has(into)) return;
         const typed = Object.fromEntries([...form.typedSince].map((name) => [name, form.inputs[name].value]));
         this.add(text, 'waiting', typed);
         form.typedSince.clear();
-        form.inputs[next].value = '';
+        form.inputs[into].value = '';
     }
 
+    /** @param {string} text @param {State} state @param {Object<string, string> | null} typed */
     add(text, state, typed) {
         const line = { text, state, typed, words: '' };
         this.lines.push(line);
@@ -35,14 +42,15 @@ export class Scans {
         return line;
     }
 
-    // What is sent now: a scan that waited, or what stands in the fields.
+    /** What is sent now: a scan that waited, or what stands in the fields.
+     * @param {Scan | null} waited */
     begin(waited) {
-        const { form } = this;
-        this.now = waited ?? this.add(form.inputs[form.what.next].value.trim(), 'sent', null);
+        this.now = waited ?? this.add(this.form.inputs[this.into].value.trim(), 'sent', null);
         this.now.state = 'sent';
         this.show();
     }
 
+    /** @param {State} state @param {string} words */
     became(state, words) {
         if (!this.now) return;
         [this.now.state, this.now.words] = [state, words];
@@ -58,12 +66,14 @@ export class Scans {
         return this.lines.some((line) => line.state === 'waiting' || line.state === 'sent');
     }
 
-    // The fields as they were for a scan that waited.
+    /** The fields as they were for a scan that waited.
+     * @param {Scan | null} line @returns {Object<string, { value: string }>} */
     inputsFor(line) {
         const { inputs } = this.form;
-        if (!line?.typed) return inputs;
+        const typed = line?.typed;
+        if (!typed) return inputs;
         return Object.fromEntries(Object.entries(inputs)
-            .map(([name, input]) => [name, { value: line.typed[name] ?? input.value }]));
+            .map(([name, input]) => [name, { value: typed[name] ?? input.value }]));
     }
 
     show() {

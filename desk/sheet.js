@@ -8,19 +8,27 @@ import { channelName, dayDate } from './site.js';
 import { labelAt } from './day-model.js';
 import { lengthLabel } from './timecode.js';
 
+/** @typedef {import('./day-model.js').Day} Day */
+/** @typedef {{ day: Day, rows: import('./aired-model.js').AiredRow[], counts: import('./tables.js').Counts }} Match */
+/** What is printed or saved of a view: `day` is its number, where it is about one.
+ * @typedef {{ title: string, words: string, day?: number, match?: Match, rows: any[],
+ *     columns: Pick<import('./list-columns.js').Column<any>, 'name' | 'align' | 'mark' | 'text'>[] }} Sheet */
+
 const WIDTH = 1400;
 const LANE = 30;
 const WORDS = 110;
 const HOURS = 3;
 // Black on white: each status has a shade of its own.
+/** @type {Object<string, string>} */
 const SHADES = { OK: '#c9c9c9', SLIP: '#8a8a8a', WRONG: '#000000', MISSED: '#4d4d4d' };
 
-// The day with a lane for each status, which is named beside it, and the hours below.
+/** The day with a lane for each status, which is named beside it, and the hours below.
+ * @param {Day} day @param {import('./aired-model.js').AiredRow[]} rows */
 function picture(day, rows) {
     const height = (STATUSES.length + 1) * LANE;
     const looks = { class: 'sheet-picture', role: 'img', 'aria-label': 'The day' };
     const canvas = make('canvas', { width: WIDTH, height, ...looks });
-    const context = canvas.getContext('2d');
+    const context = /** @type {CanvasRenderingContext2D} */ (canvas.getContext('2d'));
     const scale = (WIDTH - WORDS) / day.frames;
     context.fillStyle = '#ffffff';
     context.fillRect(0, 0, WIDTH, height);
@@ -42,6 +50,7 @@ function picture(day, rows) {
     return canvas;
 }
 
+/** @param {Match} match */
 function totals({ day, counts }) {
     const all = STATUSES.reduce((sum, status) => sum + counts[status], 0);
     return make('table', { class: 'sheet-totals' }, ...STATUSES.map((status) => make('tr', {},
@@ -50,6 +59,7 @@ function totals({ day, counts }) {
         make('td', {}, `${(counts[status] * 100 / Math.max(1, all)).toFixed(3)} %`))));
 }
 
+/** @param {string} head @param {Sheet} sheet */
 function table(head, { columns, rows }) {
     const heads = columns.map((column) => make('th', { class: column.align ?? 'left' }, column.name));
     const lines = rows.map((row) => make('tr', { class: row.mark ?? '' }, ...columns.map((column) => make('td', {
@@ -61,7 +71,7 @@ function table(head, { columns, rows }) {
         make('tbody', {}, ...lines));
 }
 
-// what: { title, words, day (its number), columns, rows, match: { day, rows, counts } }, or nothing to print
+/** @param {Sheet | null | undefined | false} what @param {import('./desk.js').Desk} desk */
 export function fillSheet(what, desk) {
     const sheet = byId('sheet');
     if (!what) {
@@ -84,7 +94,7 @@ export function emptySheet() {
     byId('sheet').replaceChildren();
 }
 
-// what: as for fillSheet
+/** @param {Sheet | null | undefined | false} what @param {import('./desk.js').Desk} desk */
 export function saveSheet(what, desk) {
     if (!what || what.rows.length === 0) {
         say('Nothing of this view is there to save.', 'bad');

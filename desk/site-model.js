@@ -11,6 +11,21 @@ export function noSite() {
     return { day1: null, zone: undefined, channels: new Map(), faults: [] };
 }
 
+/** The channel that staff type: its number, or its name or a part of it that no other has.
+ * @param {string} text @param {Map<number, ChannelFacts>} channels @returns {{ channel?: number, fault?: string }} */
+export function channelNamed(text, channels) {
+    const typed = text.trim().toLowerCase();
+    const digits = /^(?:ch )?(\d{1,9})\b/.exec(typed);
+    if (digits) return { channel: Number(digits[1]) };
+    const named = [...channels].filter(([, { name }]) => name !== '');
+    if (typed === '' || named.length === 0) return { fault: 'Type a whole number.' };
+    const exact = named.filter(([, { name }]) => name.toLowerCase() === typed);
+    const found = exact.length > 0 ? exact : named.filter(([, { name }]) => name.toLowerCase().includes(typed));
+    if (found.length === 1) return { channel: found[0][0] };
+    return { fault: found.length === 0 ? `No channel is called ${text.trim()}: type its number.`
+        : `${found.map(([number, { name }]) => `${number} ${name}`).join(', ')}: type which.` };
+}
+
 /** @param {unknown} zone */
 function isZone(zone) {
     try {

@@ -12,8 +12,9 @@
  *     first: string }} Item */
 /** @typedef {{ day: number, sealed: boolean, items: Item[], planned: number, frames: number }} Plan */
 /** @typedef {{ number: number, sealed: boolean, items: number, frames: number, batches: number }} DayRow */
-/** @typedef {{ at: string, frames: number, status: string }} Run */
 /** @typedef {{ OK: number, SLIP: number, WRONG: number, MISSED: number }} Counts frames of each status */
+/** @typedef {keyof Counts} Status */
+/** @typedef {{ at: string, frames: number, status: Status }} Run */
 
 const LINES = {
     tape: /^ *(\d+) ([A-Z0-9]{1,8}) +(\d+|out)$/,
@@ -135,7 +136,7 @@ export function matchOf(text) {
     const { rows, counts } = rowsOf(text, LINES.run, last, (fields) => ({
         at: fields[1],
         frames: Number(fields[2]),
-        status: fields[3],
+        status: /** @type {Status} */ (fields[3]),
     }));
     const [ok, slip, wrong, missed] = counts.slice(1).map(Number);
     return { runs: rows, counts: { OK: ok, SLIP: slip, WRONG: wrong, MISSED: missed } };

@@ -6,18 +6,23 @@ const COLOURS = ['ground', 'overview', 'rule', 'text', 'dim', 'cursor', 'casing'
     'recalled', 'now', 'ok', 'slip', 'wrong', 'missed', 'on-status', 'on-slip', 'hatch-slip', 'hatch-wrong'];
 
 const light = matchMedia('(prefers-color-scheme: light)');
+const forced = matchMedia('(forced-colors: active)');
+/** @type {Set<() => void>} */
 const hearers = new Set();
+/** @type {Object<string, string> | null} */
 let colours = null;
 
 export function chosenTheme() {
     return localStorage.getItem(KEY) ?? 'system';
 }
 
+/** @param {() => void} hearer @returns {() => void} what ends it */
 export function onTheme(hearer) {
     hearers.add(hearer);
     return () => hearers.delete(hearer);
 }
 
+/** @param {string} choice */
 export function setTheme(choice) {
     if (choice === 'system') localStorage.removeItem(KEY);
     else localStorage.setItem(KEY, choice);
@@ -32,11 +37,12 @@ function apply() {
 }
 
 export function startTheme() {
-    light.addEventListener('change', apply);
+    for (const wish of [light, forced]) wish.addEventListener('change', apply);
     apply();
 }
 
-/** The colours of a canvas by their names. */
+/** The colours of a canvas by their names.
+ * @returns {Object<string, string>} */
 export function palette() {
     if (!colours) {
         const style = getComputedStyle(document.documentElement);

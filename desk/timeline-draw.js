@@ -4,71 +4,25 @@
 import { placeOf, frameOfSecond } from './timecode.js';
 import { eachPixel, endOf } from './ranges.js';
 import { palette } from './theme.js';
+import { FONT, WORDS, fill, hatch, mark, words } from './canvas.js';
+
+/** @typedef {import('./timeline.js').TimeLine} TimeLine */
+/** @typedef {import('./day-model.js').Day} Day */
+/** @typedef {import('./day-model.js').Block} Block */
+/** @typedef {import('./canvas.js').Part} Part */
 
 export const OVERVIEW = 22;
 export const RULER = 24;
 export const PLAN = 54;
 const AIRED = 40;
-const FONT = '11px "DejaVu Sans Mono", "Liberation Mono", Menlo, Consolas, monospace';
-const WORDS = '11px "DejaVu Sans", "Liberation Sans", "Segoe UI", Arial, sans-serif';
 const APART = 104;
 
+/** @param {Day} day */
 export function heightOf(day) {
     return OVERVIEW + RULER + PLAN + (day.runs ? AIRED : 0) + 4;
 }
 
-function fill(context, colour, x, y, width, height) {
-    context.fillStyle = colour;
-    context.fillRect(x, y, width, height);
-}
-
-// Diagonal lines over a part: one direction for gaps and SLIP, both for WRONG and what was recalled.
-function hatch(context, colour, [x, y, width, height], both = false) {
-    if (width < 2) return;
-    context.save();
-    context.beginPath();
-    context.rect(x, y, width, height);
-    context.clip();
-    context.strokeStyle = colour;
-    context.lineWidth = 1;
-    context.beginPath();
-    for (let left = x - height - (x % 8); left < x + width; left += 8) {
-        context.moveTo(left, y + height);
-        context.lineTo(left + height, y);
-        if (both) {
-            context.moveTo(left, y);
-            context.lineTo(left + height, y + height);
-        }
-    }
-    context.stroke();
-    context.restore();
-}
-
-// Words inside a part, cut off at its end; none where there is no room for three letters. On a hatched part they have a
-// ground of their own.
-function words(context, text, [x, y, width, height], colour, font = WORDS, ground = '') {
-    const left = Math.max(x, 0) + 5;
-    const room = x + width - left - 4;
-    if (room < 24) return;
-    context.save();
-    context.beginPath();
-    context.rect(left - 2, y, room + 2, height);
-    context.clip();
-    context.font = font;
-    const middle = y + height / 2;
-    if (ground) fill(context, ground, left - 2, middle - 8, context.measureText(text).width + 4, 16);
-    context.fillStyle = colour;
-    context.textBaseline = 'middle';
-    context.fillText(text, left, middle);
-    context.restore();
-}
-
-// Light within dark, so that it is seen on whatever is below it.
-function mark(context, colour, casing, x, top, bottom) {
-    fill(context, casing, Math.round(x) - 1, top, 4, bottom - top);
-    fill(context, colour, Math.round(x), top, 2, bottom - top);
-}
-
+/** @param {CanvasRenderingContext2D} context @param {TimeLine} line */
 export function drawOverview(context, line) {
     const { day } = line;
     const colours = palette();
@@ -89,6 +43,7 @@ export function drawOverview(context, line) {
     mark(context, colours.cursor, colours.casing, line.cursor * scale, 0, OVERVIEW);
 }
 
+/** @param {CanvasRenderingContext2D} context @param {TimeLine} line */
 export function drawTrack(context, line) {
     const width = line.width();
     const colours = palette();
@@ -102,18 +57,28 @@ export function drawTrack(context, line) {
     drawGhosts(context, line, plan);
     if (line.now !== null && line.x(line.now) >= 0 && line.x(line.now) <= width) {
         mark(context, colours.now, colours.casing, line.x(line.now), OVERVIEW, height);
-        words(context, 'NOW', [line.x(line.now), OVERVIEW, 60, 12], colours.now, FONT);
+        words(context, 'NOW', [nowLeft(line), OVERVIEW + 2, NOW_WIDE, RULER - 4], colours.now, FONT, colours.ground);
     }
     drawCursor(context, line, height);
 }
 
+/** The word NOW stands in the ruler, beside its line: no label is written there.
+ * @param {import('./timeline.js').TimeLine} line */
+function nowLeft(line) {
+    return Math.min(line.x(line.now ?? 0), line.width() - NOW_WIDE);
+}
+
+/** @param {string} label */
 function secondsOf(label) {
     const [hours, minutes, seconds] = label.split(/[:;]/).map(Number);
     return hours * 3600 + minutes * 60 + seconds;
 }
 
+const NOW_WIDE = 40;
+const LABEL_WIDE = 90;
 const SECONDS = [1, 2, 5, 10, 30, 60, 120, 300, 600, 1800, 3600, 7200, 10800, 21600];
 
+/** @param {CanvasRenderingContext2D} context @param {TimeLine} line @param {number} width */
 function drawRuler(context, line, width) {
     context.font = FONT;
     context.textBaseline = 'middle';
@@ -131,15 +96,18 @@ function drawRuler(context, line, width) {
     fill(context, palette().rule, 0, OVERVIEW + RULER - 1, width, 1);
 }
 
+/** @param {CanvasRenderingContext2D} context @param {TimeLine} line @param {number} place */
 function drawTick(context, line, place) {
     const x = Math.round(line.x(place));
     if (x < -90 || x > line.width()) return;
     fill(context, palette().rule, x, OVERVIEW + 4, 1, RULER - 4);
+    if (line.now !== null && x < nowLeft(line) + NOW_WIDE && nowLeft(line) < x + LABEL_WIDE) return;
     context.fillStyle = palette().dim;
     context.fillText(line.label(place), x + 4, OVERVIEW + RULER / 2);
 }
 
-// Near enough, each frame has its own stroke, and every so many their labels.
+/** Near enough, each frame has its own stroke, and every so many their labels.
+ * @param {CanvasRenderingContext2D} context @param {TimeLine} line @param {number} width */
 function drawFrames(context, line, width) {
     const last = Math.min(line.day.frames, Math.ceil(line.from + width * line.perPixel));
     const apart = Math.max(1, Math.ceil(APART * line.perPixel));
@@ -150,13 +118,15 @@ function drawFrames(context, line, width) {
     }
 }
 
-/** @returns {[number, number, number, number]} */
+/** @param {TimeLine} line @param {import('./ranges.js').Range} range @param {number} top @param {number} height
+ * @returns {Part} */
 function partOf(line, range, top, height) {
     const left = Math.max(-20, line.x(range.place));
     const right = Math.min(line.width() + 20, line.x(endOf(range)));
     return [left, top, Math.max(1, right - left), height];
 }
 
+/** @param {CanvasRenderingContext2D} context @param {TimeLine} line @param {number} top @param {number} width */
 function drawGaps(context, line, top, width) {
     const { gaps } = line.day;
     const colours = palette();
@@ -166,6 +136,7 @@ function drawGaps(context, line, top, width) {
     });
 }
 
+/** @param {CanvasRenderingContext2D} context @param {Object<string, string>} colours @param {Part} part */
 function drawGap(context, colours, part) {
     const [x, y, width, height] = part;
     hatch(context, colours['gap-hatch'], part);
@@ -176,6 +147,7 @@ function drawGap(context, colours, part) {
     words(context, 'GAP', part, colours['gap-word'], WORDS, colours.ground);
 }
 
+/** @param {CanvasRenderingContext2D} context @param {TimeLine} line @param {number} top @param {number} width */
 function drawBlocks(context, line, top, width) {
     const { blocks } = line.day;
     eachPixel(blocks, line.from, line.perPixel, width, (x, wide, first, last) => {
@@ -191,6 +163,7 @@ function drawBlocks(context, line, top, width) {
     }
 }
 
+/** @param {CanvasRenderingContext2D} context @param {TimeLine} line @param {Block} block @param {number} top */
 function drawBlock(context, line, block, top) {
     const colours = palette();
     const part = partOf(line, block, top + 4, PLAN - 8);
@@ -211,6 +184,7 @@ function drawBlock(context, line, block, top) {
         colours['on-block'], FONT, ground);
 }
 
+/** @param {CanvasRenderingContext2D} context @param {TimeLine} line @param {Block} block @param {number} top */
 function drawChosen(context, line, block, top) {
     const [x, y, width, height] = partOf(line, block, top + 4, PLAN - 8);
     context.strokeStyle = palette().casing;
@@ -222,13 +196,15 @@ function drawChosen(context, line, block, top) {
     context.lineWidth = 1;
 }
 
+/** @param {CanvasRenderingContext2D} context @param {Part} part */
 function drawBars(context, [x, y, width, height]) {
     const colours = ['#b4b4b4', '#b4b41e', '#1eb4b4', '#1eb41e', '#b41eb4', '#b41e1e', '#1e1eb4'];
     const size = width / colours.length;
     colours.forEach((colour, index) => fill(context, colour, x + index * size, y + height - 5, size, 4));
 }
 
-// A dissolve is a wedge over its frames.
+/** A dissolve is a wedge over its frames.
+ * @param {CanvasRenderingContext2D} context @param {TimeLine} line @param {Block} block @param {Part} part */
 function drawMix(context, line, block, [x, y, , height]) {
     const width = block.mix / line.perPixel;
     if (width < 2) return;
@@ -241,8 +217,9 @@ function drawMix(context, line, block, [x, y, , height]) {
     context.fill();
 }
 
+/** @param {CanvasRenderingContext2D} context @param {TimeLine} line @param {number} top @param {number} width */
 function drawRuns(context, line, top, width) {
-    const { runs } = line.day;
+    const runs = line.day.runs ?? [];
     const colours = palette();
     eachPixel(runs, line.from, line.perPixel, width, (x, wide, first, last) => {
         const { status } = runs[first];
@@ -258,12 +235,13 @@ function drawRuns(context, line, top, width) {
         if (status === 'WRONG') hatch(context, colours['hatch-wrong'], part, true);
         if (status === 'MISSED' && part[2] > 4) fill(context, colours.ground, part[0] + 2, part[1] + 4, part[2] - 4,
             part[3] - 8);
-        const word = { SLIP: colours['on-slip'], MISSED: colours.text }[status] ?? colours['on-status'];
+        const word = status === 'SLIP' ? colours['on-slip'] : status === 'MISSED' ? colours.text : colours['on-status'];
         words(context, status, part, word, WORDS, status === 'MISSED' ? '' : colour);
     });
 }
 
-// Where something would come to lie: what is dragged, or what the form has.
+/** Where something would come to lie: what is dragged, or what the form has.
+ * @param {CanvasRenderingContext2D} context @param {TimeLine} line @param {number} top */
 function drawGhosts(context, line, top) {
     const colours = palette();
     for (const ghost of line.ghosts()) {
@@ -275,6 +253,7 @@ function drawGhosts(context, line, top) {
     }
 }
 
+/** @param {CanvasRenderingContext2D} context @param {TimeLine} line @param {number} height */
 function drawCursor(context, line, height) {
     const { cursor, casing } = palette();
     const x = line.x(line.cursor);

@@ -4,19 +4,37 @@
 import { OVERVIEW, RULER, PLAN } from './timeline-draw.js';
 import { endOf, snapped } from './ranges.js';
 
+/** @typedef {import('./timeline.js').TimeLine} TimeLine */
+/** @typedef {import('./timeline.js').Ghost} Ghost */
+/** @typedef {import('./day-model.js').Block} Block */
+/** @typedef {import('./ranges.js').Range} Range */
+/** @typedef {import('./list.js').How} How */
+/** What hears of it; words: what is at a place.
+ * @typedef {{ choose?: (block: Block | null, how: How) => unknown, open?: (place: number) => unknown,
+ *     remove?: (block: Block | null) => unknown, nextFault?: (place: number) => unknown,
+ *     words?: (place: number) => string, cursor?: (place: number) => unknown, mayEdit?: () => boolean,
+ *     move?: (step: number) => unknown, trim?: (block: Block, range: Range) => unknown }} Hears */
+/** @typedef {{ block: Block, edge: 'begin' | 'end' | null }} Grasped */
+/** @typedef {{ x: number, from: number, overview: boolean, grasped: Grasped | null, moved: boolean,
+ *     place: number }} Begun what the pointer began */
+
 const BEGINS = 4;
 const EDGE = 6;
 const SNAPS = 8;
 
 export class Press {
+    /** @param {TimeLine} timeline */
     constructor(timeline) {
         this.timeline = timeline;
+        /** @type {Begun | null} */
+        this.begun = null;
         const { surface } = timeline;
         surface.addEventListener('pointerdown', (event) => this.down(event));
         surface.addEventListener('pointermove', (event) => this.hover(event));
     }
 
-    // Whether a chosen item is under the pointer, and which of its edges.
+    /** Whether a chosen item is under the pointer, and which of its edges.
+     * @param {PointerEvent} event @returns {Grasped | null} */
     grasped(event) {
         const { timeline } = this;
         const y = event.clientY - timeline.surface.getBoundingClientRect().top;
@@ -34,6 +52,7 @@ export class Press {
         return null;
     }
 
+    /** @param {PointerEvent} event */
     hover(event) {
         if (this.begun || !this.timeline.day) return;
         const grasped = this.grasped(event);
@@ -41,22 +60,24 @@ export class Press {
         this.timeline.surface.classList.toggle('over-item', Boolean(grasped && !grasped.edge));
     }
 
+    /** @param {PointerEvent} event */
     down(event) {
         const { timeline } = this;
         if (!timeline.day || event.button !== 0 || this.begun) return;
         const overview = event.clientY - timeline.surface.getBoundingClientRect().top < OVERVIEW;
         const grasped = overview ? null : this.grasped(event);
+        /** @type {Begun} */
         const begun = { x: event.clientX, from: timeline.from, overview, grasped, moved: false,
             place: timeline.placeAt(event.clientX) };
         this.begun = begun;
-        const move = (moved) => this.move(begun, moved);
-        const stop = (stopped) => {
+        const move = (/** @type {PointerEvent} */ moved) => this.move(begun, moved);
+        const stop = (/** @type {Event} */ stopped) => {
             for (const [type, hearer] of listeners) removeEventListener(type, hearer, true);
             this.begun = null;
-            if (stopped.type === 'pointerup') this.up(begun, stopped);
+            if (stopped.type === 'pointerup') this.up(begun, /** @type {PointerEvent} */ (stopped));
             else timeline.setGhosts([]);
         };
-        const escape = (key) => {
+        const escape = (/** @type {KeyboardEvent} */ key) => {
             if (key.key !== 'Escape') return;
             key.preventDefault();
             key.stopPropagation();
@@ -68,20 +89,22 @@ export class Press {
         if (overview) timeline.centre(timeline.placeAt(event.clientX, true));
     }
 
+    /** @param {Begun} begun @param {PointerEvent} event */
     move(begun, event) {
         const { timeline } = this;
         begun.moved ||= Math.abs(event.clientX - begun.x) > BEGINS;
         if (begun.overview) timeline.centre(timeline.placeAt(event.clientX, true));
-        else if (begun.moved && begun.grasped) timeline.setGhosts(this.wanted(begun, event));
+        else if (begun.moved && begun.grasped) timeline.setGhosts(this.wanted(begun, event, begun.grasped));
         else if (begun.moved) timeline.panTo(begun.from - (event.clientX - begun.x) * timeline.perPixel);
     }
 
+    /** @param {Begun} begun @param {PointerEvent} event */
     up(begun, event) {
         const { timeline } = this;
         timeline.setGhosts([]);
         if (begun.overview) return;
         if (begun.moved && begun.grasped) {
-            const [range] = this.wanted(begun, event);
+            const [range] = this.wanted(begun, event, begun.grasped);
             const { block, edge } = begun.grasped;
             if (edge) timeline.hears.trim?.(block, { place: range.place, frames: range.frames });
             else timeline.hears.move?.(this.step(begun, event));
@@ -93,7 +116,8 @@ export class Press {
         timeline.choose(timeline.blockAt(begun.place), true, how);
     }
 
-    // By how many frames the chosen items are moved: the first of them snaps, with Shift it doesn't.
+    /** By how many frames the chosen items are moved: the first of them snaps, with Shift it doesn't.
+     * @param {Begun} begun @param {PointerEvent} event */
     step(begun, event) {
         const { timeline } = this;
         const chosen = timeline.marked();
@@ -105,10 +129,10 @@ export class Press {
         return place - first.place;
     }
 
-    // The ranges that the chosen items would have.
-    wanted(begun, event) {
+    /** The ranges that the chosen items would have.
+     * @param {Begun} begun @param {PointerEvent} event @param {Grasped} grasped @returns {Ghost[]} */
+    wanted(begun, event, { block, edge }) {
         const { timeline } = this;
-        const { block, edge } = begun.grasped;
         if (!edge) {
             const step = this.step(begun, event);
             return timeline.marked().map((each) => ({ place: each.place + step, frames: each.frames, fits: true }));

@@ -12,19 +12,31 @@ const NEAREST = 1 / 40;
 const STEP = 1.5;
 const FEW = 12;
 
+/** @typedef {import('./day-model.js').Day} Day */
+/** @typedef {import('./day-model.js').Block} Block */
+/** @typedef {import('./ranges.js').Range} Range */
+/** @typedef {import('./list.js').How} How */
+/** @typedef {Range & { fits: boolean }} Ghost where something would come to lie, and whether it has room there */
+/** @typedef {import('./timeline-press.js').Hears} Hears */
+
 export class TimeLine {
-    // hears: choose(block, how), open(place), remove(block), nextFault(place), words(place) -> what is there,
-    // mayEdit(), move(step), trim(block, range), escape()
+    /** @param {string} label @param {Hears} hears */
     constructor(label, hears = {}) {
-        this.hears = /** @type {any} */ (hears);
-        this.day = null;
+        this.hears = hears;
+        /** @type {Day} once one was shown */
+        this.day = /** @type {any} */ (null);
         this.from = 0;
         this.perPixel = 1;
         this.cursor = 0;
+        /** @type {Block | null} */
         this.chosen = null;
+        /** @type {Block[]} */
         this.selected = [];
+        /** @type {Ghost | null} */
         this.ghost = null;
+        /** @type {Ghost[]} */
         this.dragged = [];
+        /** @type {number | null} */
         this.now = null;
         this.later = oncePerFrame(() => this.draw());
         this.canvas = make('canvas', { 'aria-hidden': 'true' });
@@ -42,7 +54,7 @@ export class TimeLine {
         this.leave = onTheme(() => this.later());
     }
 
-    // day: { rate, start, frames, blocks, gaps, runs }, blocks and gaps and runs by place
+    /** @param {Day} day */
     show(day) {
         const first = this.day === null || this.day.frames !== day.frames;
         this.day = day;
@@ -65,11 +77,13 @@ export class TimeLine {
         return this.ghost ? [this.ghost, ...this.dragged] : this.dragged;
     }
 
+    /** @param {Ghost[]} ranges */
     setGhosts(ranges) {
         this.dragged = ranges;
         this.later();
     }
 
+    /** @param {number | null} place */
     setNow(place) {
         this.now = place;
         this.later();
@@ -87,7 +101,7 @@ export class TimeLine {
         this.canvas.height = Math.round(height * sharp);
         this.canvas.style.width = `${width}px`;
         this.canvas.style.height = `${height}px`;
-        this.canvas.getContext('2d').setTransform(sharp, 0, 0, sharp, 0, 0);
+        this.context().setTransform(sharp, 0, 0, sharp, 0, 0);
         this.bound();
         this.draw();
     }
@@ -105,43 +119,52 @@ export class TimeLine {
         this.later();
     }
 
+    context() {
+        return /** @type {CanvasRenderingContext2D} */ (this.canvas.getContext('2d'));
+    }
+
     draw() {
         if (!this.day) return;
         const begun = performance.now();
-        const context = this.canvas.getContext('2d');
+        const context = this.context();
         drawOverview(context, this);
         drawTrack(context, this);
         const { dataset } = this.surface;
-        dataset.from = this.from;
-        dataset.perPixel = this.perPixel;
-        dataset.cursor = this.cursor;
-        dataset.now = this.now ?? '';
+        dataset.from = String(this.from);
+        dataset.perPixel = String(this.perPixel);
+        dataset.cursor = String(this.cursor);
+        dataset.now = String(this.now ?? '');
         dataset.chosen = this.marked().map((block) => block.number).join(' ');
-        dataset.top = OVERVIEW + RULER;
+        dataset.top = String(OVERVIEW + RULER);
         dataset.took = (performance.now() - begun).toFixed(2);
     }
 
+    /** @param {number} place */
     x(place) {
         return (place - this.from) / this.perPixel;
     }
 
+    /** @param {number} place */
     label(place) {
         return labelAt(this.day, place);
     }
 
-    // The place under the pointer; in the overview strip, of the whole day.
+    /** The place under the pointer; in the overview strip, of the whole day.
+     * @param {number} clientX @param {boolean} overview */
     placeAt(clientX, overview = false) {
         const x = clientX - this.surface.getBoundingClientRect().left;
         const place = overview ? x * this.day.frames / this.width() : this.from + x * this.perPixel;
         return Math.max(0, Math.min(this.day.frames - 1, Math.floor(place)));
     }
 
+    /** @param {MouseEvent} event */
     covers(event) {
         const box = this.surface.getBoundingClientRect();
         return event.clientX >= box.left && event.clientX < box.right && event.clientY >= box.top
             && event.clientY < box.bottom;
     }
 
+    /** @param {number} factor @param {number} about */
     zoom(factor, about = this.cursor) {
         if (!this.day) return;
         const x = this.x(about);
@@ -153,7 +176,8 @@ export class TimeLine {
         this.later();
     }
 
-    // Brings a range into view, with something of its neighbours.
+    /** Brings a range into view, with something of its neighbours.
+     * @param {number} place @param {number} frames */
     bring(place, frames) {
         if (!this.day) return;
         this.perPixel = Math.max(NEAREST, frames * 3 / this.width());
@@ -162,36 +186,41 @@ export class TimeLine {
         this.moveTo(place);
     }
 
+    /** @param {number} from */
     panTo(from) {
         this.from = from;
         this.bound();
         this.later();
     }
 
-    // The cursor leaves what was chosen where it leaves its place.
+    /** The cursor leaves what was chosen where it leaves its place.
+     * @param {number} place @param {boolean} leaves */
     moveTo(place, leaves = true) {
         if (!this.day) return;
         this.cursor = Math.max(0, Math.min(this.day.frames - 1, place));
         const x = this.x(this.cursor);
         if (x < 0 || x > this.width() - 8) this.from = this.cursor - this.width() * this.perPixel / 2;
         this.bound();
-        const has = (block) => block.place <= this.cursor && this.cursor < endOf(block);
+        const has = (/** @type {Block} */ block) => block.place <= this.cursor && this.cursor < endOf(block);
         if (leaves && this.marked().length > 0 && !this.marked().some(has)) this.choose(null);
         this.later();
         this.tell();
         this.hears.cursor?.(this.cursor);
     }
 
+    /** @param {boolean} aloud */
     tell(aloud = true) {
         const words = `${this.label(this.cursor)}  ${this.hears.words?.(this.cursor) ?? ''}`;
         this.readout.textContent = words;
         if (aloud && document.activeElement === this.surface) announce(words);
     }
 
+    /** @param {number} place */
     blockAt(place) {
         return this.day.blocks[indexAt(this.day.blocks, place)] ?? null;
     }
 
+    /** @param {Block | null} block @param {boolean} tell @param {How} how */
     choose(block, tell = true, how = '') {
         this.chosen = block;
         if (!block) this.selected = [];
@@ -199,11 +228,13 @@ export class TimeLine {
         if (tell) this.hears.choose?.(block, how);
     }
 
+    /** @param {Block[]} blocks */
     setSelected(blocks) {
         this.selected = [...blocks].sort((one, other) => one.place - other.place);
         this.later();
     }
 
+    /** @param {number} step */
     stepBlock(step) {
         const { blocks } = this.day;
         const index = step > 0 ? blocks.findIndex((block) => block.place > this.cursor)
@@ -213,12 +244,14 @@ export class TimeLine {
         this.choose(blocks[index]);
     }
 
+    /** @param {KeyboardEvent} event */
     key(event) {
         if (!this.day || event.altKey || event.metaKey) return;
         const second = this.day.rate.count;
         const page = Math.max(1, Math.round(this.width() * this.perPixel * 0.8));
         const pace = event.ctrlKey ? 60 * second : event.shiftKey ? second : Math.max(1, Math.round(this.perPixel));
-        const does = {
+        /** @type {Object<string, () => unknown>} */
+        const keys = {
             ArrowLeft: () => this.moveTo(this.cursor - pace), ArrowRight: () => this.moveTo(this.cursor + pace),
             PageUp: () => this.moveTo(this.cursor - page), PageDown: () => this.moveTo(this.cursor + page),
             Home: () => this.moveTo(0), End: () => this.moveTo(this.day.frames - 1),
@@ -227,12 +260,14 @@ export class TimeLine {
             n: () => this.stepBlock(1), p: () => this.stepBlock(-1), g: () => this.hears.nextFault?.(this.cursor),
             Enter: () => this.hears.open?.(this.cursor),
             Delete: () => this.marked().length > 0 && this.hears.remove?.(this.chosen),
-        }[event.key.length === 1 ? event.key.toLowerCase() : event.key];
+        };
+        const does = keys[event.key.length === 1 ? event.key.toLowerCase() : event.key];
         if (!does || (event.ctrlKey && event.key.length === 1)) return;
         event.preventDefault();
         does();
     }
 
+    /** @param {WheelEvent} event */
     wheel(event) {
         if (!this.day) return;
         event.preventDefault();
@@ -241,10 +276,12 @@ export class TimeLine {
         } else this.zoom(event.deltaY > 0 ? STEP : 1 / STEP, this.placeAt(event.clientX));
     }
 
+    /** @param {number} place */
     centre(place) {
         this.panTo(place - this.width() * this.perPixel / 2);
     }
 
+    /** @param {MouseEvent} event */
     double(event) {
         if (!this.day) return;
         const block = this.blockAt(this.placeAt(event.clientX));
@@ -252,7 +289,8 @@ export class TimeLine {
     }
 }
 
-// The buttons of a time line, for those who have no wheel and no keys.
+/** The buttons of a time line, for those who have no wheel and no keys.
+ * @param {TimeLine} timeline */
 export function zoomButtons(timeline) {
     return make('div', { class: 'group' },
         button('Whole day', () => timeline.whole()),

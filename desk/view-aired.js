@@ -7,6 +7,7 @@ import { TimeLine, zoomButtons } from './timeline.js';
 import { DayBar, dayNumber } from './daybar.js';
 import { TextPanel, takesFiles } from './textpanel.js';
 import { BatchForm } from './batch-form.js';
+import { GoTo } from './go-to.js';
 import { readPlan } from './facts.js';
 import { indexAt } from './ranges.js';
 import { dayOf, placeWords, labelAt, endLabel } from './day-model.js';
@@ -16,6 +17,13 @@ import {
 import { sentenceOf } from './refusals.js';
 import { lengthLabel } from './timecode.js';
 
+/** @typedef {Aired} AiredView */
+/** @typedef {import('./desk.js').Desk} Desk */
+/** @typedef {import('./office.js').Scope} Scope */
+/** @typedef {import('./tables.js').Plan} Plan */
+/** @typedef {import('./aired-model.js').AiredRow} AiredRow */
+
+/** @param {AiredView} view @returns {import('./list-columns.js').Column<AiredRow>[]} */
 function runColumns(view) {
     return [
         { name: 'Begins', width: '6.6rem', text: (run) => labelAt(view.day, run.place), mark: () => 'code',
@@ -33,7 +41,8 @@ function runColumns(view) {
     ];
 }
 
-// The plan beside a run: what was to air there. What aired in its place can't be read from the office.
+/** The plan beside a run: what was to air there. What aired in its place can't be read from the office.
+ * @param {AiredView} view @returns {import('./list-columns.js').Column<ReturnType<typeof plannedBeside>[number]>[]} */
 function plannedColumns(view) {
     return [
         { name: 'Item', width: '3rem', align: 'right', text: (row) => row.number, mark: () => 'number' },
@@ -46,14 +55,40 @@ function plannedColumns(view) {
 }
 
 class Aired {
+    /** @param {HTMLElement} main @param {Desk} desk @param {number} number @param {Scope} scope */
     constructor(main, desk, number, scope) {
         this.main = main;
         this.scope = scope;
         this.desk = desk;
         this.number = number;
         this.path = `/ch/${desk.channel}/days/${number}`;
-        this.day = null;
+        /** @type {import('./day-model.js').Day} once it was read */
+        this.day = /** @type {any} */ (null);
+        /** @type {AiredRow[]} */
         this.rows = [];
+        /** @type {AiredRow[]} */
+        this.shown = [];
+        /** @type {import('./aired-model.js').AiredRun[] | null} */
+        this.runs = null;
+        this.counts = totalsOf([]);
+        /** @type {HTMLElement} */
+        this.state;
+        /** @type {HTMLElement} */
+        this.summary;
+        /** @type {HTMLElement} */
+        this.missing;
+        /** @type {HTMLElement} */
+        this.trouble;
+        /** @type {HTMLElement} */
+        this.work;
+        /** @type {HTMLElement} */
+        this.totals;
+        /** @type {HTMLSelectElement} */
+        this.about;
+        /** @type {HTMLSelectElement} */
+        this.only;
+        /** @type {() => void} */
+        this.leaveFiles;
         this.bar = new DayBar(desk, 'aired', number, scope);
         this.timeline = new TimeLine(`What went out of day ${number}`, {
             choose: () => this.chooseRun(), nextFault: (place) => this.nextFault(place),
@@ -65,6 +100,10 @@ class Aired {
         this.planned = new List('What was planned in the chosen run', plannedColumns(this));
         this.planned.show([], 'Choose a run.');
         this.text = new TextPanel();
+        this.goTo = new GoTo(() => this.runs && this.day, (place) => {
+            this.timeline.moveTo(place);
+            this.chooseRun();
+        });
         this.batch = new BatchForm(this);
         this.build();
     }
@@ -80,7 +119,7 @@ class Aired {
         this.totals = make('table', { class: 'totals' });
         const tools = make('div', { class: 'bar tools', role: 'group', 'aria-label': 'Time line' },
             zoomButtons(this.timeline),
-            button('Next fault', () => this.runs && this.nextFault(this.timeline.cursor)),
+            button('Next fault', () => this.runs && this.nextFault(this.timeline.cursor)), this.goTo.element,
             make('label', { for: 'about' }, 'About'), this.about, make('label', { for: 'only' }, 'Show'), this.only,
             button('Print', () => window.print(), { id: 'print' }));
         const side = make('div', { class: 'side' }, panel('Totals', this.totals),
@@ -103,6 +142,7 @@ class Aired {
         await this.bar.around();
     }
 
+    /** @param {Plan | undefined} plan @param {import('./facts.js').NotDone | undefined} answer */
     notSealed(plan, answer) {
         if (answer?.kind === 'lost') return;
         if (answer && answer.code !== 71) {
@@ -115,9 +155,10 @@ class Aired {
         this.summary.textContent = '';
         this.state.textContent = plan ? 'OPEN' : 'NOT THERE';
         this.state.className = `badge state ${plan ? 'open' : 'none'}`;
-        this.missing.textContent = sentenceOf(plan ? { code: 74, refused: 'NotSealed' } : answer);
+        this.missing.textContent = sentenceOf(answer ?? { code: 74, refused: 'NotSealed' });
     }
 
+    /** @param {Plan} plan */
     async showDay(plan) {
         const root = `/ch/${this.desk.channel}`;
         const [clips, lent] = await Promise.all([this.scope.read(`${root}/clips`), this.scope.read(`${root}/lent`)]);
@@ -175,17 +216,20 @@ class Aired {
             + STATUSES.map((status) => `${status} ${grouped(this.counts[status])}`).join(', ');
     }
 
+    /** @param {number} place */
     words(place) {
         const run = this.runs?.[indexAt(this.runs, place)];
         const status = run ? `${run.status}, ${STATUS_WORDS[run.status]}: ` : '';
         return `${status}${placeWords(this.day, place)}`;
     }
 
+    /** @param {AiredRow} run */
     choseRun(run) {
         this.timeline.moveTo(run.place);
         this.showPlanned(run);
     }
 
+    /** @param {AiredRow | null} run */
     showPlanned(run) {
         this.planned.show(run ? plannedBeside(this.day, run) : [], 'Choose a run.');
     }
@@ -195,8 +239,9 @@ class Aired {
         if (run && this.list.chooseKey(run.key)) this.showPlanned(run);
     }
 
+    /** @param {number} place */
     nextFault(place) {
-        const faults = this.runs.filter((run) => run.status !== 'OK');
+        const faults = (this.runs ?? []).filter((run) => run.status !== 'OK');
         const run = faults.find((each) => each.place > place) ?? faults[0];
         if (!run) {
             say('All of the day went out as planned.', 'good', `${this.desk.channel}/${this.number}`);
@@ -224,6 +269,7 @@ class Aired {
     }
 }
 
+/** @param {HTMLElement} main @param {Desk} desk @param {string[]} more @param {Scope} scope */
 export function airedView(main, desk, more, scope) {
     return new Aired(main, desk, dayNumber(desk, more), scope);
 }

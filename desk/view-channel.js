@@ -4,28 +4,37 @@ import { make, clear, panel, grouped } from './dom.js';
 import { vaultOf, clipsOf, offersOf, lentOf } from './tables.js';
 import { channelName, site } from './site.js';
 import { frameOf, lengthOf, labelOf, lengthLabel, completed } from './timecode.js';
+import { areDone, refusedIn } from './requests.js';
 import { sentenceOf } from './refusals.js';
 
+/** @typedef {import('./desk.js').Desk} Desk */
+/** @typedef {import('./office.js').Scope} Scope */
+
+/** @param {string[][]} pairs */
 function figures(pairs) {
     const lines = pairs.flatMap(([name, value]) => [make('dt', {}, name), make('dd', {}, value)]);
     return make('dl', { class: 'figures' }, ...lines);
 }
 
+/** @param {import('./timecode.js').Rate} rate */
 function rateWords(rate) {
     const drop = rate.drop ? 'drop-frame, labels with ;' : 'non-drop, labels with :';
     return `${rate.name} (${drop}), ${grouped(rate.day)} frames a day`;
 }
 
-// A reckoner for labels and lengths at the channel's rate.
+/** A reckoner for labels and lengths at the channel's rate.
+ * @param {Desk} desk */
 function reckoner(desk) {
     const sum = make('output', { class: 'sum', for: 'reckon-label reckon-length' });
-    const input = (id, word, value) => [make('label', { for: id }, word), make('input', { id, class: 'label', value })];
     const zero = labelOf(0, desk.rate());
-    const box = make('div', { class: 'reckoner' }, ...input('reckon-label', 'Label', zero),
-        ...input('reckon-length', 'and length', zero), make('span', {}, 'ends at'), sum);
+    const input = (/** @type {string} */ id, /** @type {string} */ word) => [make('label', { for: id }, word),
+        make('input', { id, class: 'label', value: zero })];
+    const box = make('div', { class: 'reckoner' }, ...input('reckon-label', 'Label'),
+        ...input('reckon-length', 'and length'), make('span', {}, 'ends at'), sum);
     box.addEventListener('input', () => reckon());
     box.addEventListener('change', (event) => {
-        event.target.value = completed(event.target.value, desk.rate());
+        const field = /** @type {HTMLInputElement} */ (event.target);
+        field.value = completed(field.value, desk.rate());
         reckon();
     });
     const reckon = () => {
@@ -33,24 +42,25 @@ function reckoner(desk) {
         const [label, length] = [...box.querySelectorAll('input')].map((each) => each.value);
         const [begins, long] = [frameOf(completed(label, rate), rate), lengthOf(completed(length, rate), rate)];
         const fault = begins.fault ?? long.fault;
+        const [frame, frames] = [begins.frame ?? 0, long.frames ?? 0];
         sum.textContent = fault ? sentenceOf({ code: fault })
-            : `${labelOf(begins.frame + long.frames, rate)} (from frame ${grouped(begins.frame)}, `
-                + `${grouped(long.frames)} long)`;
+            : `${labelOf(frame + frames, rate)} (from frame ${grouped(frame)}, ${grouped(frames)} long)`;
     };
     reckon();
     return panel('Reckoner', box);
 }
 
+/** @param {number} channel @param {Scope} scope */
 async function counts(channel, scope) {
-    /** @type {[string, (text: string) => any][]} */
-    const tables = [['tapes', vaultOf], ['clips', clipsOf], ['offers', offersOf], ['lent', lentOf]];
-    const answers = await Promise.all(tables.map(([name]) => scope.read(`/ch/${channel}/${name}`)));
-    const refused = answers.find((answer) => answer.kind === 'refused');
+    const tables = ['tapes', 'clips', 'offers', 'lent'];
+    const answers = await Promise.all(tables.map((name) => scope.read(`/ch/${channel}/${name}`)));
+    const refused = refusedIn(answers);
     if (refused) throw new Refusal(sentenceOf(refused));
-    if (answers.some((answer) => answer.kind !== 'done')) return null;
-    const [vault, clips, offers, lent] = tables.map(([, parse], index) => parse(answers[index].text));
+    if (!areDone(answers)) return null;
+    const texts = answers.map((answer) => answer.text);
+    const [vault, clips, offers, lent] = [vaultOf(texts[0]), clipsOf(texts[1]), offersOf(texts[2]), lentOf(texts[3])];
     const active = clips.filter((clip) => clip.state === 'active').length;
-    const open = (rows) => rows.filter((row) => row.state === 'open').length;
+    const open = (/** @type {{ state: string }[]} */ rows) => rows.filter((row) => row.state === 'open').length;
     return [
         ['Slots', grouped(vault.slots)],
         ['Tapes', `${grouped(vault.tapes.length)}, ${grouped(vault.tapes.length - vault.shelved)} of them out`],
@@ -63,9 +73,12 @@ async function counts(channel, scope) {
 class Refusal extends Error {}
 
 class Channel {
+    /** @param {HTMLElement} main @param {Desk} desk @param {Scope} scope */
     constructor(main, desk, scope) {
         this.desk = desk;
         this.scope = scope;
+        /** @type {string[][]} */
+        this.pairs = [];
         this.identity = make('div', {});
         this.has = make('div', { id: 'channel-has' }, make('p', { class: 'dim' }, 'Loading...'));
         clear(main, make('div', { class: 'columns' }, panel('Channel', this.identity), panel('What it has', this.has),
@@ -84,7 +97,8 @@ class Channel {
             ['A day begins at', labelOf(desk.start(), rate)],
             ['A day is', lengthLabel(rate.day, rate)],
         ];
-        if (site().day1) pairs.push(['Day 1 was', site().day1]);
+        const { day1 } = site();
+        if (day1) pairs.push(['Day 1 was', day1]);
         clear(this.identity, figures(pairs));
     }
 
@@ -100,11 +114,13 @@ class Channel {
     }
 
     sheet() {
+        /** @type {import('./sheet.js').Sheet['columns']} */
         const columns = [{ name: 'What', text: (row) => row[0] }, { name: 'How many', text: (row) => row[1] }];
-        return { title: 'What it has', words: 'The channel.', columns, rows: this.pairs ?? [] };
+        return { title: 'What it has', words: 'The channel.', columns, rows: this.pairs };
     }
 }
 
+/** @param {HTMLElement} main @param {Desk} desk @param {string[]} more @param {Scope} scope */
 export function channelView(main, desk, more, scope) {
     return new Channel(main, desk, scope);
 }

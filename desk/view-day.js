@@ -3,54 +3,89 @@
 import { make, clear, panel, fold, button, say, download, counted } from './dom.js';
 import { clipsOf, lentOf, vaultOf } from './tables.js';
 import { isBusy } from './office.js';
+import { areDone } from './requests.js';
 import { List } from './list.js';
 import { TimeLine, zoomButtons } from './timeline.js';
 import { DayBar, dayNumber } from './daybar.js';
 import { TextPanel, takesFiles } from './textpanel.js';
 import { DayForms } from './day-forms.js';
+import { chooseList } from './day-list-forms.js';
 import { DayEdits } from './day-edits.js';
 import { DayChoice } from './day-choice.js';
 import { DayFind } from './day-find.js';
 import { DaySources } from './day-sources.js';
+import { GoTo } from './go-to.js';
 import { Relink } from './relink.js';
 import { reelsOut } from './pull-model.js';
+import { planCells } from './plan-cells.js';
+import { foldsForms, planColumns } from './plan-columns.js';
 import { readPlan } from './facts.js';
 import { indexAt } from './ranges.js';
-import { dayOf, planRows, placeWords, labelAt, endLabel, kindWords, dayWords } from './day-model.js';
+import { dayOf, planRows, placeWords, dayWords } from './day-model.js';
 import { sentenceOf } from './refusals.js';
-import { lengthLabel } from './timecode.js';
 import { nowAt } from './site.js';
+
+/** @typedef {Day} DayView */
+/** @typedef {import('./desk.js').Desk} Desk */
+/** @typedef {import('./office.js').Scope} Scope */
+/** @typedef {import('./day-model.js').PlanRow} PlanRow */
 
 const LOOKS_EACH = 4000;
 const SPARES = 100; // A look takes the office at most a hundredth of its time.
 
-function planColumns(view) {
-    return [
-        { name: 'Item', width: '2.8rem', align: 'right', text: (row) => row.number, mark: () => 'number' },
-        { name: 'Begins', width: '6.6rem', text: (row) => labelAt(view.day, row.place), mark: () => 'code',
-            sort: (row) => row.place },
-        { name: 'Length', width: '6.6rem', text: (row) => lengthLabel(row.frames, view.day.rate), mark: () => 'code',
-            sort: (row) => row.frames },
-        { name: 'Title', width: 'minmax(9rem, 1fr)',
-            text: (row) => `${row.recalled ? 'RECALLED ' : ''}${row.tapeOut ? 'TAPE OUT ' : ''}${row.title}` },
-        { name: 'Source', width: '5.6rem', text: (row) => row.source, mark: () => 'code' },
-        { name: 'Kind', width: '6.2rem', text: (row) => (row.gap ? '' : kindWords(row)) },
-        { name: 'Ends', width: '6.6rem', text: (row) => endLabel(view.day, row), mark: () => 'code' },
-        { name: 'From', width: '6.6rem', text: (row) => (row.gap ? '' : row.first), mark: () => 'code dim' },
-    ];
-}
-
 class Day {
+    /** @param {HTMLElement} main @param {Desk} desk @param {number} number @param {Scope} scope */
     constructor(main, desk, number, scope) {
         this.main = main;
         this.desk = desk;
         this.number = number;
         this.scope = scope;
         this.path = `/ch/${desk.channel}/days/${number}`;
-        this.day = null;
+        /** @type {import('./day-model.js').Day} once it was read */
+        this.day = /** @type {any} */ (null);
+        /** @type {import('./tables.js').Plan | null} */
+        this.plan = null;
+        /** @type {import('./day-model.js').Sources} */
         this.titles = new Map();
-        this.out = new Set(); // the reels whose tape is out
+        /** @type {Set<string>} the reels whose tape is out */
+        this.out = new Set();
+        /** @type {HTMLElement | null} where the focus goes once an item was added */
+        this.returnTo = null;
+        /** @type {HTMLElement} */
+        this.summary;
+        /** @type {HTMLElement} */
+        this.openWords;
+        /** @type {HTMLElement} */
+        this.work;
+        /** @type {HTMLElement} */
+        this.missing;
+        /** @type {HTMLElement} */
+        this.trouble;
+        /** @type {HTMLElement} */
+        this.exportFault;
+        /** @type {HTMLElement} */
+        this.state;
+        /** @type {HTMLElement} */
+        this.side;
+        /** @type {HTMLElement} */
+        this.acts;
+        /** @type {HTMLElement} */
+        this.importing;
+        /** @type {HTMLElement} */
+        this.folding;
+        /** @type {HTMLElement} */
+        this.lost;
+        /** @type {HTMLElement} */
+        this.below;
+        /** @type {HTMLElement} */
+        this.exporting;
+        /** @type {() => void} */
+        this.leaveFiles;
+        /** @type {(event: KeyboardEvent) => void} */
+        this.keys;
         this.bar = new DayBar(desk, 'day', number, scope);
+        this.shownText = '';
+        /** @type {TimeLine} */
         this.timeline = new TimeLine(`Day ${number}`, {
             choose: (block, how) => this.choice.block(block, how), cursor: () => this.choice.showOpenPlace(),
             open: (place) => this.openAt(place), remove: () => this.forms.takeOut(),
@@ -62,9 +97,11 @@ class Day {
             choose: (row) => this.choice.row(row), open: (row) => this.timeline.bring(row.place, row.frames),
             remove: () => !this.day.sealed && this.forms.takeOut(), select: (rows) => this.choice.rows(rows),
         }, true);
+        planCells(this);
         this.text = new TextPanel();
         this.choice = new DayChoice(this);
         this.finder = new DayFind(this);
+        this.goTo = new GoTo(() => this.day, (place) => this.choice.goTo(place));
         this.sourcing = new DaySources(this);
         this.forms = new DayForms(this);
         this.edits = new DayEdits(this);
@@ -83,25 +120,30 @@ class Day {
         this.openWords = make('p', { class: 'open-place', id: 'open-place' });
         this.missing = make('div', { class: 'missing', hidden: true });
         this.trouble = make('p', { class: 'fault', id: 'day-trouble' });
+        this.lost = make('p', { class: 'fault', id: 'typed-lost' });
         this.exportFault = make('p', { class: 'fault', id: 'export-fault' });
-        const top = make('div', { class: 'bar' }, this.bar.element, this.state, this.summary);
+        this.folding = button('Forms', () => null, { id: 'forms', title: 'shown beside the plan, or folded away' });
         const tools = make('div', { class: 'bar tools', role: 'group', 'aria-label': 'Time line' },
             zoomButtons(this.timeline), this.edits.tools,
             make('div', { class: 'group' },
                 button('Next gap', () => this.day && this.choice.nextGap(this.timeline.cursor)), this.finder.element),
-            this.openWords);
+            this.goTo.element, this.folding, this.openWords);
         const { item, remove, list, seal } = this.forms;
         const { edit, move, empty, copy } = this.edits.forms;
         this.exporting = button('Export the day', () => this.exported(), { id: 'export' });
         this.whole = panel('The day', fold('copy', 'Copy a day into this one', true, copy.element),
-            fold('lists', 'Lists', true, list.element), this.exporting, this.exportFault, seal.element);
+            fold('lists', 'Lists', true, list.element));
+        this.importing = button('Import a list', () => chooseList(this), { id: 'import-list' });
+        this.acts = make('div', { class: 'bar acts' }, this.importing, this.exporting, seal.element, this.exportFault);
+        const top = make('div', { class: 'bar' }, this.bar.element, this.state, this.acts, this.summary);
         this.side = make('div', { class: 'side' },
             panel('Put in', item.element),
             panel('Change', edit.element, move.element, remove.element,
                 fold('clear', 'Make a stretch empty', false, empty.element)),
             this.whole);
-        this.below = make('div', { class: 'below' }, make('section', { class: 'plan', 'aria-label': 'Plan' },
+        this.below = make('div', { class: 'below' }, make('section', { class: 'plan', 'aria-label': 'Plan' }, this.lost,
             this.list.element, this.text.element), this.sourcing.element, this.side);
+        foldsForms(this.folding, this.below);
         this.work = make('div', { class: 'day-work' }, tools, this.timeline.element, this.below);
         clear(this.main, top, this.edits.notice.element, this.relink.element, this.trouble, this.missing, this.work);
         this.leaveFiles = takesFiles(this.main, (files) => this.forms.dropList(files));
@@ -119,7 +161,7 @@ class Day {
         const root = `/ch/${this.desk.channel}`;
         const tables = ['clips', 'lent', 'tapes'];
         const answers = await Promise.all(tables.map((table) => this.scope.read(`${root}/${table}`)));
-        if (answers.some((answer) => answer.kind !== 'done')) return;
+        if (!areDone(answers)) return;
         const [clips, lent, tapes] = answers;
         const [own, others] = [clipsOf(clips.text), lentOf(lent.text)];
         this.out = reelsOut(own, vaultOf(tapes.text).tapes);
@@ -141,7 +183,7 @@ class Day {
     async againPlan() {
         const { plan, text, answer } = await readPlan(this.scope, this.desk.channel, this.number);
         if (!plan) {
-            this.notThere(answer);
+            this.notThere(/** @type {import('./facts.js').NotDone} */ (answer));
             return;
         }
         if (text === this.shownText && this.day) {
@@ -153,12 +195,13 @@ class Day {
         this.showPlan(plan);
     }
 
+    /** @param {import('./tables.js').Plan} plan */
     showPlan(plan) {
         const first = this.day === null;
         this.day = dayOf(plan, this.desk.start(), this.desk.rate(), this.titles, this.out);
         this.missing.hidden = true;
         this.trouble.textContent = '';
-        this.work.hidden = false;
+        [this.work.hidden, this.acts.hidden] = [false, false];
         this.timeline.show(this.day);
         this.list.show(planRows(this.day), 'The day is empty.');
         this.showState();
@@ -169,16 +212,17 @@ class Day {
         this.edits.shown();
     }
 
-    // A day is known not to be there by 71 alone; what else the office or the gate says leaves what is shown.
+    /** A day is known not to be there by 71 alone; what else the office or the gate says leaves what is shown.
+     * @param {import('./facts.js').NotDone} answer */
     notThere(answer) {
         if (answer.kind === 'lost') return;
         if (answer.code !== 71) {
             this.trouble.textContent = sentenceOf(answer);
-            if (!this.day) this.work.hidden = true;
+            if (!this.day) [this.work.hidden, this.acts.hidden] = [true, true];
             return;
         }
-        this.day = null;
-        this.work.hidden = true;
+        this.day = /** @type {any} */ (null);
+        [this.work.hidden, this.acts.hidden] = [true, true];
         this.missing.hidden = false;
         this.state.textContent = 'NOT THERE';
         this.state.className = 'badge state none';
@@ -192,9 +236,17 @@ class Day {
         this.state.textContent = sealed ? 'SEALED' : 'OPEN';
         this.state.className = `badge state ${sealed ? 'sealed' : 'open'}`;
         this.summary.textContent = dayWords(this.day, counted);
-        for (const part of [this.sourcing.element, this.side, this.edits.tools, this.openWords]) part.hidden = sealed;
+        const parts = [this.sourcing.element, this.side, this.edits.tools, this.openWords, this.folding,
+            this.importing, this.forms.seal.element];
+        for (const part of parts) part.hidden = sealed;
         this.below.classList.toggle('sealed', sealed);
-        if (sealed) this.finder.element.append(this.exporting, this.exportFault);
+    }
+
+    /** What was typed into a row that can't take it any more.
+     * @param {string} words */
+    tellLost(words) {
+        this.lost.textContent = words;
+        say(words, 'bad', this.edits.place);
     }
 
     showNow() {
@@ -204,6 +256,7 @@ class Day {
         if (now) this.clock = setTimeout(() => this.day && this.showNow(), 10000);
     }
 
+    /** @param {number} place */
     openAt(place) {
         if (this.day.sealed) return;
         const gap = this.day.gaps[indexAt(this.day.gaps, place)] ?? this.choice.openPlace();
@@ -240,6 +293,7 @@ class Day {
     }
 }
 
+/** @param {HTMLElement} main @param {Desk} desk @param {string[]} more @param {Scope} scope */
 export function dayView(main, desk, more, scope) {
     return new Day(main, desk, dayNumber(desk, more), scope);
 }

@@ -6,8 +6,13 @@ import { DayBar, dayNumber } from './daybar.js';
 import { List } from './list.js';
 import { pullRows } from './pull-model.js';
 import { readPlan } from './facts.js';
+import { refusedIn } from './requests.js';
 import { sentenceOf } from './refusals.js';
 
+/** @typedef {import('./desk.js').Desk} Desk */
+/** @typedef {import('./office.js').Scope} Scope */
+
+/** @type {import('./list-columns.js').Column<import('./pull-model.js').PullRow>[]} */
 const COLUMNS = [
     { name: 'Slot', width: '4.5rem', align: 'right', text: (row) => row.slot ?? 'OUT', mark: () => 'number',
         sort: (row) => row.slot ?? 100000 },
@@ -19,6 +24,7 @@ const COLUMNS = [
 ];
 
 class PullList {
+    /** @param {HTMLElement} main @param {Desk} desk @param {number} number @param {Scope} scope */
     constructor(main, desk, number, scope) {
         this.desk = desk;
         this.number = number;
@@ -34,16 +40,17 @@ class PullList {
         const { channel } = this.desk;
         const [{ plan, answer }, clips, tapes] = await Promise.all([readPlan(this.scope, channel, this.number),
             this.scope.read(`/ch/${channel}/clips`), this.scope.read(`/ch/${channel}/tapes`), this.bar.around()]);
-        const fault = [answer, clips, tapes].find((each) => each && each.kind !== 'done');
-        if (fault) {
-            this.list.show([], fault.code === 71 ? 'This day isn\'t there.' : 'It can\'t be read now.');
-            this.summary.textContent = fault.kind === 'refused' ? sentenceOf(fault) : '';
-            if (fault.kind === 'refused' && fault.code !== 71) say(sentenceOf(fault), 'bad');
+        if (!plan || clips.kind !== 'done' || tapes.kind !== 'done') {
+            const fault = refusedIn([answer, clips, tapes]);
+            this.list.show([], fault?.code === 71 ? 'This day isn\'t there.' : 'It can\'t be read now.');
+            this.summary.textContent = fault ? sentenceOf(fault) : '';
+            if (fault && fault.code !== 71) say(sentenceOf(fault), 'bad');
             return;
         }
         this.show(pullRows(plan, clipsOf(clips.text), vaultOf(tapes.text).tapes, this.desk.start(), this.desk.rate()));
     }
 
+    /** @param {import('./pull-model.js').PullRow[]} rows */
     show(rows) {
         const out = rows.filter((row) => row.slot === null).length;
         this.list.show(rows.map((row) => ({ ...row, mark: row.slot === null ? 'out' : '' })),
@@ -59,6 +66,7 @@ class PullList {
     }
 }
 
+/** @param {HTMLElement} main @param {Desk} desk @param {string[]} more @param {Scope} scope */
 export function pullView(main, desk, more, scope) {
     return new PullList(main, desk, dayNumber(desk, more), scope);
 }

@@ -9,48 +9,18 @@ import { foundIn } from './doubt.js';
 import { FieldFault } from './fields.js';
 import { Bulk } from './bulk.js';
 import { freeSlot, tapeNamed, tapeRows, tapeWord } from './bulk-model.js';
+import { Many, namesIn, severalWords } from './many.js';
+import { refusedIn } from './requests.js';
 import { sentenceOf } from './refusals.js';
+import { filtered, shelfRows } from './shelf-model.js';
+
+/** @typedef {import('./desk.js').Desk} Desk */
+/** @typedef {import('./tables.js').Clip} Clip */
+/** @typedef {import('./shelf-model.js').Shelf} Shelf */
 
 const SHOWN = [['all', 'All slots'], ['shelved', 'Shelved'], ['out', 'Out'], ['free', 'Free slots']];
 
-function clipsByTape(clips) {
-    const byTape = new Map();
-    for (const clip of clips) {
-        if (!byTape.has(clip.tape)) byTape.set(clip.tape, []);
-        byTape.get(clip.tape).push(clip);
-    }
-    return byTape;
-}
-
-// A row of each slot, by slot, and behind them one of each tape that is out.
-function shelfRows(vault, clips) {
-    const byTape = clipsByTape(clips);
-    const bySlot = new Map();
-    const out = [];
-    for (const tape of vault.tapes) {
-        const held = byTape.get(tape.number) ?? [];
-        const words = [tape.barcode, ...held.flatMap((clip) => [clip.reel, clip.title])].join('\n').toLowerCase();
-        const row = { key: `tape-${tape.number}`, slot: tape.slot, tape, clips: held, words };
-        if (tape.slot === null) out.push({ ...row, mark: 'out' });
-        else bySlot.set(tape.slot, row);
-    }
-    const shelf = [];
-    for (let slot = 1; slot <= vault.slots; slot += 1) {
-        shelf.push(bySlot.get(slot) ?? { key: `slot-${slot}`, slot, tape: null, clips: [], words: '', mark: 'free' });
-    }
-    return [...shelf, ...out];
-}
-
-function filtered(rows, shown, search) {
-    const wanted = search.trim().toLowerCase();
-    return rows.filter((row) => {
-        if (shown === 'free') return !row.tape && !wanted;
-        if (shown === 'shelved' && (!row.tape || row.slot === null)) return false;
-        if (shown === 'out' && (!row.tape || row.slot !== null)) return false;
-        return !wanted || row.words.includes(wanted);
-    });
-}
-
+/** @type {import('./list-columns.js').Column<Shelf>[]} */
 const COLUMNS = [
     { name: 'Slot', width: '4.5rem', align: 'right', text: (row) => row.slot ?? 'OUT', mark: () => 'number',
         sort: (row) => row.slot ?? 100000 },
@@ -61,15 +31,35 @@ const COLUMNS = [
 ];
 
 class Vault {
+    /** @param {HTMLElement} main @param {Desk} desk @param {Scope} scope */
     constructor(main, desk, scope) {
         this.desk = desk;
         this.scope = scope;
-        this.vault = null;
+        /** @type {import('./tables.js').VaultTable} once it was read */
+        this.vault = /** @type {any} */ (null);
         this.path = `/ch/${desk.channel}/tapes`;
+        /** @type {Shelf[]} */
         this.rows = [];
+        /** @type {HTMLInputElement} */
+        this.search;
+        /** @type {HTMLSelectElement} */
+        this.shown;
+        /** @type {HTMLElement} */
+        this.summary;
+        /** @type {Bulk} */
+        this.bulk;
+        /** @type {Form} */
+        this.add;
+        /** @type {Form} */
+        this.pull;
+        /** @type {Many} */
+        this.pullMany;
+        /** @type {Form} */
+        this.shelve;
         this.list = new List('Shelf by slots', COLUMNS, {
-            choose: (row) => this.chosen(row), open: (row) => this.open(row),
-        });
+            choose: (row) => this.chosen(row), open: (row) => this.open(row), select: (rows) => this.chose(rows),
+        }, true);
+        /** @type {List<Clip & { key: string }>} */
         this.held = new List('Clips on the chosen tape', [
             { name: 'Reel', width: '6rem', text: (clip) => clip.reel, mark: () => 'code' },
             { name: 'Title', width: 'minmax(4rem, 1fr)', text: (clip) => clip.title },
@@ -79,6 +69,7 @@ class Vault {
         this.build(main);
     }
 
+    /** @param {HTMLElement} main */
     build(main) {
         this.search = make('input', { id: 'vault-search', type: 'search', placeholder: 'barcode, title or reel' });
         this.shown = make('select', { id: 'vault-shown' }, ...options(SHOWN));
@@ -90,7 +81,7 @@ class Vault {
         this.forms();
         this.bulk = this.bulkForm();
         const right = make('div', { class: 'side' },
-            panel('Tapes', this.add.element, this.pull.element, this.shelve.element,
+            panel('Tapes', this.add.element, this.pull.element, this.pullMany.element, this.shelve.element,
                 fold('bulk-tapes', 'Tapes from a file', false, this.bulk.element)),
             panel('On the chosen tape', this.held.element));
         clear(main, left, right);
@@ -100,19 +91,39 @@ class Vault {
         return { place: this.desk.channel, rate: this.desk.rate };
     }
 
-    // A tape's field takes its barcode, as a scanner types it with Enter, or its number.
+    /** A tape's field takes its barcode, as a scanner types it with Enter, or its number.
+     * @param {import('./fields.js').Values} values */
     named(values) {
-        const { number, fault } = tapeNamed(values.tape, this.vault?.tapes ?? []);
-        if (fault) throw new FieldFault(fault, 'tape');
-        values.tape = number;
+        values.tape = this.numberOf(values.tape);
     }
 
-    // The slot that is filled next is the free one behind the last.
+    /** @param {string} text */
+    numberOf(text) {
+        const { number, fault } = tapeNamed(text, this.vault?.tapes ?? []);
+        if (fault) throw new FieldFault(fault, 'tape');
+        return number;
+    }
+
+    /** @param {number} number */
+    tapeWords(number) {
+        return this.vault?.tapes.find((each) => each.number === number)?.barcode ?? `tape ${number}`;
+    }
+
+    /** Several that are chosen are pulled together; one of them, by Enter.
+     * @param {Shelf[]} rows */
+    chose(rows) {
+        const tapes = rows.flatMap((row) => (row.tape && row.slot !== null ? [tapeWord(row.tape)] : []));
+        if (tapes.length > 1) this.pull.fill({ tape: tapes.join(' ') });
+    }
+
+    /** The slot that is filled next is the free one behind the last.
+     * @param {number} slot */
     async behind(slot = 0) {
         await this.again();
         this.offerSlot(slot);
     }
 
+    /** @param {number} slot */
     offerSlot(slot) {
         if (!this.vault) return;
         const { tapes, slots } = this.vault;
@@ -120,7 +131,8 @@ class Vault {
         for (const form of [this.add, this.shelve]) form.put({ slot: free });
     }
 
-    // Asks the vault whether a tape is as it was to be.
+    /** Asks the vault whether a tape is as it was to be.
+     * @param {(tape: import('./tables.js').Tape) => boolean} look @param {Scope} scope */
     async asked(look, scope = this.scope) {
         const answer = await scope.read(this.path);
         return foundIn(answer, () => {
@@ -131,7 +143,9 @@ class Vault {
     }
 
     forms() {
+        /** @type {import('./fields.js').Field} */
         const tape = { name: 'tape', label: 'Tape', kind: 'text', hint: 'barcode or number' };
+        /** @type {import('./fields.js').Field} */
         const slot = { name: 'slot', label: 'Slot', kind: 'number' };
         this.add = new Form({
             ...this.common(), name: 'add-tape', title: 'Add a tape', word: 'Add',
@@ -142,14 +156,8 @@ class Vault {
             done: (answer, values) => `Tape ${answer.value.tape}, ${values.barcode}, stands in slot ${values.slot}.`,
             asked: (values) => this.asked((each) => each.barcode === values.barcode && each.slot === values.slot),
         });
-        this.pull = new Form({
-            ...this.common(), name: 'pull-tape', title: 'Pull a tape', word: 'Pull', fields: [tape], next: 'tape',
-            scans: true,
-            prepare: (values) => this.named(values), after: () => this.again(),
-            message: (values) => ({ path: `${this.path}/${values.tape}/pull` }),
-            done: (answer) => `Tape ${answer.value.tape} is out.`,
-            asked: (values) => this.asked((each) => each.number === values.tape && each.slot === null),
-        });
+        this.pull = this.pullForm();
+        this.pullMany = this.pullReport();
         this.shelve = new Form({
             ...this.common(), name: 'shelve-tape', title: 'Shelve a tape', word: 'Shelve', fields: [tape, slot],
             next: 'tape', scans: true, prepare: (values) => this.named(values),
@@ -158,6 +166,41 @@ class Vault {
             done: (answer, values) => `Tape ${answer.value.tape} stands in slot ${values.slot}.`,
             asked: (values) => this.asked((each) => each.number === values.tape && each.slot === values.slot),
         });
+    }
+
+    pullForm() {
+        const words = (/** @type {number} */ number) => this.tapeWords(number);
+        return new Form({
+            ...this.common(), name: 'pull-tape', title: 'Pull a tape', word: 'Pull', next: 'tape', scans: true,
+            fields: [{ name: 'tape', label: 'Tape', kind: 'text', hint: 'or several' }],
+            prepare: (values) => { values.all = namesIn(values.tape).map((each) => this.numberOf(each)); },
+            confirm: ({ all }) => (all.length === 1 ? null
+                : `Pull ${severalWords(all.map(words), 'tape').slice(0, -1)}?`),
+            run: async ({ all }) => (all.length === 1 ? null : this.pullMany.beginAll(
+                `${counted(all.length, 'tape')} pulled`,
+                all.map((/** @type {number} */ tape) => ({
+                words: this.tapeWords(tape), values: { tape },
+            })))),
+            after: () => this.again(),
+            message: ({ all }) => ({ path: `${this.path}/${all[0]}/pull` }),
+            done: (answer) => answer.words ?? `Tape ${answer.value.tape} is out.`,
+            asked: ({ all }) => this.asked((each) => each.number === all[0] && each.slot === null),
+        });
+    }
+
+    pullReport() {
+        return new Many({
+            name: 'many-pull', title: 'Pull a tape', place: this.desk.channel,
+            message: ({ values }) => ({ path: `${this.path}/${values.tape}/pull` }),
+            done: (answer) => `Tape ${answer.value.tape} is out.`,
+            isThere: async ({ values }) => {
+                /** @param {import('./tables.js').Tape} tape */
+                const isOut = (tape) => tape.number === values.tape && tape.slot === null;
+                const found = await this.asked(isOut, new Scope());
+                return found.done ? found.words : null;
+            },
+            after: () => this.again(),
+        }, this.pull);
     }
 
     bulkForm() {
@@ -187,7 +230,7 @@ class Vault {
         const [tapes, clips] = await Promise.all([this.scope.read(this.path),
             this.scope.read(`/ch/${this.desk.channel}/clips`)]);
         if (tapes.kind !== 'done' || clips.kind !== 'done') {
-            const fault = [tapes, clips].find((answer) => answer.kind === 'refused');
+            const fault = refusedIn([tapes, clips]);
             if (fault) say(sentenceOf(fault), 'bad');
             return;
         }
@@ -207,12 +250,14 @@ class Vault {
         this.chosen(this.list.chosen());
     }
 
+    /** @param {Shelf | null} row */
     chosen(row) {
         const clips = (row?.clips ?? []).map((clip) => ({ ...clip, key: clip.reel, mark: clip.state }));
         this.held.show(clips, row?.tape ? 'No clip is on it.' : 'No tape is chosen.');
     }
 
-    // Puts what was chosen into the forms that can use it, and goes on there.
+    /** Puts what was chosen into the forms that can use it, and goes on there.
+     * @param {Shelf} row */
     open(row) {
         if (!row.tape) {
             this.add.fill({ slot: row.slot });
@@ -220,7 +265,9 @@ class Vault {
             this.add.inputs.barcode.focus();
             return;
         }
-        this.pull.fill({ tape: tapeWord(row.tape) });
+        const several = this.list.chosenRows().length > 1;
+        if (several) this.chose(this.list.chosenRows());
+        else this.pull.fill({ tape: tapeWord(row.tape) });
         this.shelve.fill({ tape: tapeWord(row.tape) });
         (row.slot === null ? this.shelve.inputs.slot : this.pull.submit).focus();
     }
@@ -233,6 +280,7 @@ class Vault {
     }
 }
 
+/** @param {HTMLElement} main @param {Desk} desk @param {string[]} more @param {Scope} scope */
 export function vaultView(main, desk, more, scope) {
     return new Vault(main, desk, scope);
 }

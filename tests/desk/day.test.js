@@ -8,8 +8,8 @@ import {
     blockWords, dayOf, endLabel, gapWords, kindWords, landing, planRows, sourcesOf,
 } from '../../desk/day-model.js';
 import {
-    becameOf, changed, clashOf, cleared, isSame, moved, packed, pasted, pieceOf, replaced, reversed, revisionOf, sameIn,
-    shifted, sorted, trimmed, unpacked, whyNot, without,
+    becameOf, changed, clashOf, cleared, insertPlace, inserted, isSame, moved, packed, pasted, pieceOf, replaced,
+    reversed, revisionOf, sameIn, shifted, sorted, trimmed, unpacked, whyNot, without,
 } from '../../desk/edits.js';
 import { History } from '../../desk/history.js';
 import { pullRows, reelsOut } from '../../desk/pull-model.js';
@@ -264,4 +264,20 @@ test('the tapes of a day, by slot', () => {
     assert.deepEqual([...reelsOut(clips, tapes)], ['C0000002']);
     const out = dayOf({ ...plan, items: plan.items }, START, pal, sources, new Set(['C0000001']));
     assert.deepEqual(out.blocks.map((block) => block.tapeOut), [false, true, false, false]);
+});
+
+test('inserted, and what follows pushed on to the next gaps', () => {
+    const at = (place, frames) => piece(place, frames, 'BARS');
+    const blocks = [at(0, 100), at(100, 50), at(160, 50), at(300, 10)];
+    const places = (change) => change.add.map((each) => [each.place, each.frames]);
+    const before = inserted(blocks, [at(0, 20)], 100, 'x');
+    assert.deepEqual(places(before), [[100, 20], [120, 50], [170, 50]]);
+    assert.deepEqual(before.out, [blocks[1], blocks[2]]);
+    assert.deepEqual(places(inserted(blocks, [at(0, 10)], 150, 'x')), [[150, 10]]);
+    assert.deepEqual(places(inserted(blocks, [at(0, 5)], 100, 'x')), [[100, 5], [105, 50]]);
+    assert.deepEqual(places(inserted(blocks, [at(0, 200)], 0, 'x')), [[0, 200], [200, 100], [300, 50], [350, 50],
+        [400, 10]]);
+    assert.deepEqual(places(inserted(blocks, [at(7, 20), at(30, 5)], 210, 'x')), [[210, 20], [233, 5]]);
+    assert.equal(insertPlace(blocks, 120), 100);
+    assert.equal(insertPlace(blocks, 155), 155);
 });

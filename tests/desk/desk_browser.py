@@ -45,7 +45,8 @@ def driver_of(downloads):
     options.set_capability('goog:loggingPrefs', {'browser': 'ALL'})
     service = Service('/usr/bin/chromedriver')
     driver = webdriver.Chrome(options=options, service=service)
-    driver.set_page_load_timeout(30)
+    driver.set_page_load_timeout(2 * PATIENCE)
+    driver.set_script_timeout(2 * PATIENCE)
     sized(driver, 1440, 900)
     return driver
 

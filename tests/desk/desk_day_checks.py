@@ -98,7 +98,7 @@ def day_by_mouse(suite):
     lend_from_two(suite, page, mouse)
     mouse.channel(1, 'clips')
     suite.equals('what is lent to channel 1',
-                 [['L0020001', 'CUP FINAL', 'lent', 'CH 2', '25', '01:00:00:00', '90000', 'each']],
+                 [['L0020001', 'CUP FINAL', 'lent', 'each', 'CH 2', '25', '01:00:00:00', '90000']],
                  shown(page, 'Lent to this channel'))
     plan_by_mouse(suite, page, mouse)
     aired_by_mouse(suite, page, mouse)
@@ -137,8 +137,10 @@ def plan_by_mouse(suite, page, mouse):
     mouse.click('form[data-form="seal"] button[type="submit"]')
     mouse.click('form[data-form="seal"] button.sure')
     page.refused('seal', None, '76 Gap. At 09:00:01:00')
-    suite.holds('the gap is brought into view', mouse.x_of(270025) > -800 and float(
-        page.one('.timeline').get_attribute('data-per-pixel')) < 1)
+    # The plan is read again before.
+    page.until(lambda: mouse.x_of(270025) > -800 and float(
+        page.one('.timeline').get_attribute('data-per-pixel')) < 1, 'the gap is brought into view')
+    suite.passes()
     suite.holds('black is dragged into the gap', mouse.drag('BL', 270030))
     page.done('add-item', 'Item 6, BL, begins at 09:00:01:00')
     mouse.click('[aria-label="Plan: items and gaps"] [data-key="item-6"]')
@@ -185,7 +187,7 @@ def lent_for_days(suite):
     suite.equals('it isn\'t said to be done for other days', '', page.result('lend'))
     page.go('clips', 1)
     suite.equals('what is lent to channel 1',
-                 [['L0020001', 'GOAL', 'lent', 'CH 2', '25', '00:00:00:00', '2000', '1 to 2']],
+                 [['L0020001', 'GOAL', 'lent', '1 to 2', 'CH 2', '25', '00:00:00:00', '2000']],
                  shown(page, 'Lent to this channel'))
     for day, sources in [(1, ['BL', 'BARS', 'L0020001']), (2, ['BL', 'BARS', 'L0020001']), (3, ['BL', 'BARS'])]:
         page.go('day', 1, day)

@@ -5,7 +5,7 @@ import time
 from selenium.webdriver.common.keys import Keys
 
 from desk_day_checks import Keyboard, Mouse, shown
-from desk_suite import UMID, asks, day_file
+from desk_suite import UMID, Busy, asks, day_file
 
 PLAN = 'Plan: items and gaps'
 
@@ -133,8 +133,15 @@ def watched(suite):
     suite.equals('what was chosen is chosen', 'item-1',
                  page.one(f'[aria-label="{PLAN}"] [aria-selected="true"]').get_attribute('data-key'))
     looks = len([each for each in page.front.asked if each[:2] == ('GET', '/ch/1/days/1')])
+    page.script('''
+        window.looks = 0;
+        const sets = window.setTimeout;
+        window.setTimeout = (does, time, ...more) => {
+            window.looks += time >= 4000 && time < 60000 ? 1 : 0;
+            return sets(does, time, ...more);
+        };''')
     still(page)
-    time.sleep(5)
+    page.until(lambda: page.script('return window.looks') >= 2, 'two times to look are over')
     suite.holds('a window that isn\'t in view doesn\'t look', len(
         [each for each in page.front.asked if each[:2] == ('GET', '/ch/1/days/1')]) <= looks + 1)
     suite.console(page)
@@ -158,6 +165,7 @@ def touch(suite):
         page.go('day', 1, 1)
         source = page.until(lambda: page.one('[aria-label="What can be put into the day"] [data-key="C0000001"]'), 'it')
         x, y = middle(source)
+        page.script('window.lifted = 0; addEventListener("touchend", () => { window.lifted += 1; }, true)')
         finger(page, 'touchStart', (x, y))
         for step in range(1, 9):
             finger(page, 'touchMove', (x, y - step * 8))
@@ -165,7 +173,7 @@ def touch(suite):
         line = middle(page.one('.timeline'))
         for kind, points in [('touchStart', [line]), ('touchMove', [(line[0] + 3, line[1])]), ('touchEnd', [])]:
             finger(page, kind, *points)
-        time.sleep(0.4)
+        page.until(lambda: page.script('return window.lifted') >= 2, 'both fingers are lifted')
         suite.equals('nothing is in hand', 0, len(page.all('.dragged')))
         suite.equals('nothing was added', [], planned(page))
         finger(page, 'touchStart', (x, y))
@@ -268,6 +276,13 @@ def questions(suite):
     keys.tab_to('form[data-form="retire-clip"] [name="clip"]')
     keys.send('retire-clip', 'C0000002 is retired', sure=True)
     suite.equals('the focus isn\'t lost by it', True, page.script('return document.activeElement !== document.body'))
+    page.go('day', 1, 1)
+    page.submit('seal')
+    page.until(lambda: page.message('seal') != '', 'a word on sealing')
+    suite.holds(f'sealing asks first: {page.message("seal")}', 'sealed for good' in page.message('seal'))
+    page.keys(Keys.ENTER)
+    page.until(lambda: page.message('seal') == '', 'Enter takes it back')
+    suite.equals('nothing was sealed', 'DAY 1 OPEN', asks(page, '1/days/1').splitlines()[0])
     suite.console(page)
 
 
@@ -276,16 +291,16 @@ def slow(suite):
     page = with_clips(suite, (1, 2, 3))
     page.front.delay = 2
     page.driver.get(f'{page.url}/#/1/day/2')
-    begun = time.monotonic()
+    busy, begun = Busy(), time.monotonic()
     page.until(lambda: 'oading' in page.text('main'), 'it says that it loads')
-    suite.holds(f'within a second: {time.monotonic() - begun:.1f} s', time.monotonic() - begun < 1)
+    suite.figure('seconds until it says that it loads', time.monotonic() - begun, 1, busy)
     # The rate is the channel's row; the frame of the day comes before any of the day's own.
     page.until(lambda: page.seen('.timeline') and page.text('#day-state') == 'LOADING', 'the frame of the day')
     early_clicks(page)
     page.until(lambda: page.text('#day-state') == 'OPEN', 'the day')
     took = time.monotonic() - begun
     # The row, and then the plan with its tables: two answers, and what the page itself takes.
-    suite.holds(f'a plan shows within three answers of two seconds: {took:.1f} s', took < 7.5)
+    suite.figure('seconds until a plan shows, three answers of two each', took, 7.5, busy)
     page.front.asked.clear()
     page.script('location.hash = "#/1/vault"')
     page.until(lambda: page.script('return document.body.dataset.frame') == '1/vault', 'another view')
@@ -366,8 +381,7 @@ def focus(suite):
     page.until(lambda: keys.is_at('form[data-form="remove-item"] button.sure'), 'the question')
     page.keys(Keys.ENTER)
     page.done('remove-item', 'is taken out')
-    page.until(somewhere, 'the focus after a confirmed question')
-    suite.equals('it is at the plan', PLAN, page.focus())
+    page.until(lambda: page.focus() == PLAN, 'the focus at the plan after a confirmed question')
     live = 'return document.querySelectorAll("[aria-live], [role=status], [role=alert], [role=log]").length'
     for view, more in [('vault', []), ('clips', []), ('day', [1]), ('channel', []), ('aired', [1])]:
         page.leads(view, 1, *more)

@@ -2,6 +2,7 @@
 keys and clicks the daily tasks take."""
 
 import json
+import re
 
 from selenium.webdriver.common.action_chains import ActionChains
 from selenium.webdriver.common.keys import Keys
@@ -10,6 +11,7 @@ from desk_browser import sized
 from desk_day_checks import Keyboard, shown
 from desk_defect_checks import PLAN, item, planned, row, still, with_clips
 from desk_suite import UMID, asks
+from stand_in import TOP
 
 
 class Counted:
@@ -38,8 +40,14 @@ class Counted:
         self.clicks += times
 
 
-def told(what, count):
+def told(suite, what, count):
+    """What was counted is what the table of docs/DESK.md has."""
     print(f'desk: {what}: {count.keys} keys, {count.clicks} clicks', flush=True)
+    line = next(each for each in (TOP / 'docs' / 'DESK.md').read_text().splitlines() if each.startswith(f'| {what} |'))
+    said = line.split('|')[3]
+    number = lambda word: int(re.search(rf'(\d+) {word}', said).group(1)) if word in said else 0
+    suite.equals(f'{what}: the keys and clicks of the document', (number('key'), number('click')),
+                 (count.keys, count.clicks))
 
 
 def ten_clips(suite):
@@ -58,7 +66,7 @@ def ten_clips(suite):
         count.type('250', Keys.ENTER)
         page.done('add-clip', f'PART {number} is entered')
         page.until(lambda: page.focus() == 'title', 'the title has the focus')
-    told('ten clips in a row', count)
+    told(suite, 'ten clips of one tape', count)
     rows = [line.split()[:6] for line in asks(page, '1/clips').splitlines()[:-1]]
     suite.equals('each begins where the last one ends', [f'10:00:{number * 10:02}:00' if number < 6 else
                  f'10:01:{number * 10 - 60:02}:00' for number in range(10)], [each[2] for each in rows])
@@ -77,7 +85,7 @@ def scanned(suite):
     keys = Keyboard(page)
     keys.tab_to('form[data-form="add-tape"] [name="barcode"]')
     for number in [1, 2, 3]:
-        page.keys(f'A000{number}', Keys.ENTER)
+        page.keys(f'a000{number}' if number == 2 else f'A000{number}', Keys.ENTER)
         page.done('add-tape', f'A000{number}, stands in slot {number}')
         page.until(lambda: page.focus() == 'barcode', 'the next one is typed at once')
     keys.tab_to('form[data-form="pull-tape"] [name="tape"]')
@@ -338,29 +346,37 @@ def counts(suite):
     still(page)
     moved = Counted(page)
     row(page, 'item-1')
-    moved.click(f'[aria-label="{PLAN}"] [data-key="item-1"]')
-    moved.click('form[data-form="move"] [name="step"]')
-    moved.type('+00:01:00', Keys.ENTER)
-    page.done('move', 'moved by +00:01:00:00')
-    told('moving an item by a minute', moved)
+    moved.click(f'[aria-label="{PLAN}"] [data-key="item-1"] [aria-colindex="2"]')
+    moved.type('06010000', Keys.ENTER)
+    page.until(lambda: planned(page)[0][1] == '06:01:00:00', 'moved')
+    page.until(lambda: ' changed.' in page.text('#said'), 'it is told')
+    told(suite, 'an item a minute later', moved)
     replaced = Counted(page)
     replaced.click(f'[aria-label="{PLAN}"] [data-key="item-2"]')
     replaced.click('[aria-label="What can be put into the day"] [data-key="C0000003"]', 2)
     page.until(lambda: 'C0000003' in [each[3] for each in planned(page)], 'replaced')
-    told('replacing a clip', replaced)
+    told(suite, 'another clip in its place', replaced)
+    page.until(lambda: ' replaced by ' in page.text('#said') and '...' not in page.text('#said'), 'it is told')
     shifted = Counted(page)
     shifted.click(f'[aria-label="{PLAN}"] [data-key="item-3"]')
     shifted.click('form[data-form="move"] [name="step"]')
     shifted.type((Keys.CONTROL, 'a'), '+00:01:00')
     shifted.click('#shift')
     page.until(lambda: [each[1] for each in planned(page)][-1:] == ['08:01:00:00'], 'shifted')
-    told('shifting all after an event', shifted)
+    told(suite, 'all that follows later', shifted)
+    page.until(lambda: page.idle('move'), 'it is read again')
+    between = Counted(page)
+    between.click(f'[aria-label="{PLAN}"] [data-key="item-3"]')
+    between.click('[aria-label="What can be put into the day"] [data-key="C0000002"]')
+    between.click('#insert')
+    page.until(lambda: ('08:01:00:00', 25, 'C0000002') in [each[1:4] for each in planned(page)], 'inserted')
+    told(suite, 'a clip between two items', between)
     yesterday = Counted(page)
     page.leads('day', 1, 4)
     asks(page, '1/days/3/import/strict', '001  BL V C 00:00:00:00 00:00:01:00 06:00:00:00 06:00:01:00\n')
     yesterday.click('#open-as-before')
     page.until(lambda: len(planned(page, 4)) == 1, 'as yesterday')
-    told('yesterday as today', yesterday)
+    told(suite, 'yesterday as today', yesterday)
     suite.equals('clicks for yesterday as today', 1, yesterday.clicks)
     suite.holds('clicks for a replaced clip', replaced.clicks <= 3 and replaced.keys == 0)
     suite.console(page)
@@ -384,7 +400,7 @@ def forty(suite):
         count.type(Keys.ENTER)
         page.done('add-item', f'Item {number}, C{number:07}')
         page.until(lambda: page.focus() == 'source-search', 'the search has the focus')
-    told('a day of 40 items', count)
+    told(suite, 'a day of 40 items', count)
     suite.holds(f'{count.keys / 40} keys an item', count.keys <= 400)
     ends = [int(each[2]) for each in planned(page)]
     suite.equals('all forty, in their order', [1000 + number for number in range(1, 41)], ends)
@@ -414,4 +430,16 @@ def split_batches(suite):
         return [...line.children].map((cell) => cell.textContent);'''))
     suite.holds('the first part is taken, and told apart', asks(page, '1/days/1/match').splitlines()[-1].startswith(
         'OK 0 SLIP 0 WRONG 27027 '))
+    # a file without a fault: each part under its own number
+    asks(page, '1/days', '{"day":2}')
+    asks(page, '1/days/2/items', '{"at":"06:00:00:00","frames":2160000,"in":"00:00:00:00","mix":0,"source":"BL"}')
+    asks(page, '1/days/2/seal', '')
+    with open(file, 'w', encoding='ascii') as out:
+        out.write(''.join(rows))
+    page.go('aired', 1, 2)
+    page.until(lambda: page.field('batch', 'batch').get_attribute('value') == '1', 'the next batch of the other day')
+    page.type('batch', file=file)
+    page.submit('batch')
+    page.until(lambda: page.field('batch', 'batch').get_attribute('value') == '3', 'two batches are taken')
+    suite.holds('all rows are taken', asks(page, '1/days/2/match').splitlines()[-1].startswith('OK 0 SLIP 0 WRONG 30000 '))
     suite.console(page)

@@ -1,7 +1,5 @@
 """The desk behind the gateway's login: in, back to the view that was asked for, out, and what was typed meanwhile."""
 
-import time
-
 from desk_browser import Page, office_of, sized
 from desk_look_checks import FAULTS_OF_LAYOUT, SIZES
 from desk_suite import ROWS
@@ -26,6 +24,12 @@ def logs_in(page, password):
     page.one('#password').send_keys(password, '\n')
 
 
+def asked_again(page):
+    """The page reads again, as it does where its window gets the focus. The gateway keeps what it knows for seconds."""
+    page.script('window.dispatchEvent(new Event("focus"))')
+    return True
+
+
 def login(suite):
     process, port = office_of(suite.program, suite.directory, 'login.db', ROWS)
     suite.offices.append(process)
@@ -47,8 +51,7 @@ def login(suite):
     page.type('add-tape', barcode='KEPT1', slot=5)
     page.script('localStorage.setItem("desk/clipboard/1", "[]")')
     gateway.users('password', USER, given=f'{SECOND}\n')
-    time.sleep(6)
-    page.script('window.dispatchEvent(new Event("focus"))')
+    page.until(lambda: asked_again(page) and where(page) == '/login#/1/vault', 'the old password is known no more')
     at_login(page, '#/1/vault')
     logs_in(page, SECOND)
     page.ready('vault', 1)
@@ -60,8 +63,7 @@ def login(suite):
     suite.equals('nothing that was typed or copied stays', [], page.script('''
         return [...Object.keys(sessionStorage), ...Object.keys(localStorage)]
             .filter((key) => key !== 'desk/theme');'''))
-    time.sleep(6)
-    page.opens('vault', 1)
+    page.until(lambda: page.opens('vault', 1) or where(page) == '/login#/1/vault', 'what was ended is known no more')
     at_login(page, '#/1/vault')
     suite.console(page)
 

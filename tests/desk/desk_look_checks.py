@@ -11,7 +11,7 @@ from desk_browser import sized
 from desk_day_checks import shown
 from desk_defect_checks import PLAN, item, row, with_clips
 from desk_large_checks import label_of, paper
-from desk_suite import UMID, asks
+from desk_suite import UMID, Busy, asks
 from desk_work_checks import lent_clips
 from stand_in import TOP
 
@@ -75,6 +75,7 @@ NEEDED = {
             'form[data-form="edit-item"] button.main', 'form[data-form="move"] button.main', '#export', '#undo',
             'form[data-form="copy-day"] button.main', '#source-search', f'[aria-label="{PLAN}"]', '.timeline',
             '#plan-search'],
+    'days': ['#period', '.period a[data-day="1"]', '.period a[data-day="31"]'],
     'aired': ['form[data-form="batch"] button.main', '#print', '.totals', '[aria-label="Runs of what went out"]'],
 }
 REACHED = '''
@@ -109,7 +110,8 @@ def busy_channel(suite):
     return page
 
 
-VIEWS = [('channel', []), ('vault', []), ('clips', []), ('day', [1]), ('day', [2]), ('day', [3]), ('aired', [2])]
+VIEWS = [('channel', []), ('vault', []), ('clips', []), ('days', [1]), ('day', [1]), ('day', [2]), ('day', [3]),
+         ('aired', [2])]
 
 
 def sizes(suite):
@@ -401,11 +403,12 @@ def gaps(suite):
             for (let time = 0; time < arguments[0]; time += 1) {
                 line.dispatchEvent(new KeyboardEvent('keydown', { key: '+', bubbles: true }));
             }''', zooms)
+        busy = Busy()
         for _ in range(ROUNDS):
             middle, late = page.driver.execute_async_script(PANS, 60)
             if late <= MOST:
                 break
         print(f'desk: 9,990 gaps, zoomed {zooms} times: drawn in {middle:.2f} ms (95 of 100 within {late:.2f})',
               flush=True)
-        suite.holds(f'zoomed {zooms} times: {late} ms', late <= MOST)
+        suite.figure(f'milliseconds a frame, zoomed {zooms} times', late, MOST, busy)
     suite.console(page)

@@ -17,7 +17,7 @@ def scratch_of(desk):
     folder = pathlib.Path(tempfile.mkdtemp(prefix='desk-models-'))
     shutil.copytree(desk, folder / 'desk')
     (folder / 'tests' / 'desk').mkdir(parents=True)
-    for file in [*HERE.glob('*.test.js'), *HERE.glob('tsconfig*.json')]:
+    for file in [*HERE.glob('*.js'), *HERE.glob('tsconfig*.json')]:
         shutil.copy(file, folder / 'tests' / 'desk')
     (folder / 'package.json').write_text('{"type": "module"}\n')
     return folder
@@ -51,7 +51,6 @@ TESTS = sorted(f'tests/desk/{file.name}' for file in HERE.glob('*.test.js'))
 WORDS = {
     'models': ['node', '--test', '--test-reporter=tap', *TESTS],
     'types': ['tsc', '-p', 'tests/desk/tsconfig.json'],
-    'strict types': ['tsc', '-p', 'tests/desk/tsconfig.models.json'],
 }
 
 
@@ -78,9 +77,8 @@ def models(suite):
 
 
 def types(suite):
-    """JSDoc types, of the models strictly."""
-    for name in ['types', 'strict types']:
-        suite.equals(name, (0, ''), ends(suite, name))
+    """JSDoc types of all modules, strictly."""
+    suite.equals('types', (0, ''), ends(suite, 'types'))
 
 
 def sizes_of_modules(suite):

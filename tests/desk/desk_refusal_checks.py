@@ -45,7 +45,7 @@ def names_of_docs():
     rows = {}
     for file in ['FORMATS.md', 'LISTS.md']:
         for line in (TOP / 'docs' / file).read_text().splitlines():
-            row = re.match(r'\| (\d+) \| ([A-Z]\w+) \|', line)
+            row = re.match(r'- (\d+) ([A-Z]\w+): ', line)
             if row and int(row[1]) <= 100:
                 rows[int(row[1])] = row[2]
     return rows
@@ -171,7 +171,7 @@ def real_refusals(suite):
         ('lend', {'first': '0', 'last': '7'}, 'first', 'Days are 1 to 99,999'),
         ('lend', {'first': '1', 'last': '100000'}, 'last', 'Days are 1 to 99,999'),
         ('lend', {'first': '8', 'last': '7'}, 'last', 'in front of the first'),
-        ('lend', {'first': 'one', 'last': '7'}, 'first', 'Type a whole number')])
+        ('lend', {'first': 'one', 'last': '7'}, 'first', 'one is no day: type its number')])
     real_refusals_of_days(suite, page)
 
 

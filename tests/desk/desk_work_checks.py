@@ -181,29 +181,34 @@ def nearer(page, times):
         }''', times)
 
 
+def pull(page, place, pixels, shift=False, escapes=False):
+    """What is at a place of the time line, pulled by so many pixels."""
+    mouse, line = Mouse(page), page.one('.timeline')
+    low = int(60 - line.size['height'] / 2)
+    page.until(lambda: 0 <= mouse.x_of(place) + line.size['width'] / 2 < line.size['width'], f'{place} is in view')
+    chain = mouse.chain()
+    chain.move_to_element_with_offset(line, int(mouse.x_of(place)), low).click_and_hold()
+    if shift:
+        chain.key_down(Keys.SHIFT)
+    chain.move_by_offset(pixels // 2, 0).move_by_offset(pixels - pixels // 2, 0)
+    if escapes:
+        chain.send_keys(Keys.ESCAPE)
+    chain.release()
+    if shift:
+        chain.key_up(Keys.SHIFT)
+    chain.perform()
+
+
 def drags(suite):
     """A chosen item is moved by the mouse and snaps to its neighbour; an edge trims it; Escape gives up."""
     page = three(suite)
-    mouse = Mouse(page)
     page.script('document.querySelector(".timeline").focus()')
     page.keys(Keys.HOME)
     row(page, 'item-2').click()
     line = page.one('.timeline')
-    low = int(60 - line.size['height'] / 2)
 
     def pulled(place, pixels, shift=False, escapes=False):
-        page.until(lambda: 0 <= mouse.x_of(place) + line.size['width'] / 2 < line.size['width'], f'{place} is in view')
-        chain = mouse.chain()
-        chain.move_to_element_with_offset(line, int(mouse.x_of(place)), low).click_and_hold()
-        if shift:
-            chain.key_down(Keys.SHIFT)
-        chain.move_by_offset(pixels // 2, 0).move_by_offset(pixels - pixels // 2, 0)
-        if escapes:
-            chain.send_keys(Keys.ESCAPE)
-        chain.release()
-        if shift:
-            chain.key_up(Keys.SHIFT)
-        chain.perform()
+        pull(page, place, pixels, shift, escapes)
 
     nearer(page, 7)
     page.until(lambda: float(line.get_attribute('data-per-pixel')) < 200, 'near enough')
@@ -395,7 +400,7 @@ def never_there(suite):
     page.type('move', step='+00:30:00')
     page.front.cut_at = '/revise'
     page.reach('#shift').click()
-    page.until(lambda: 'whether it was done is looked up' in page.message('move')
+    page.until(lambda: 'It may have been done, or not' in page.message('move')
                or 'It was not done' in page.text('#said'), 'it isn\'t known')
     page.front.cut_at = ''
     page.script('window.dispatchEvent(new Event("focus"))')
@@ -576,6 +581,9 @@ def finds(suite):
     page.done('where', 'planned 3 times in days 1 to 4')
     suite.equals('where it is', [['1', '07:00:00:00'], ['1', '09:00:00:00'], ['2', '10:00:00:00']],
                  [[each[0], each[2]] for each in shown(page, 'Where the clip is planned')])
+    page.type('where', last=2)
+    page.submit('where')
+    page.done('where', 'planned 3 times in days 1 to 2')
     suite.console(page)
 
 

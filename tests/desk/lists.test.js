@@ -4,8 +4,10 @@ import test from 'node:test';
 import assert from 'node:assert/strict';
 import { rateOf } from '../../desk/timecode.js';
 import { framesOf, isForPicture, isSpeed, listOf, readList, skippedOf, skippedWords } from '../../desk/edl.js';
+import { faultsOf, readAll } from '../../desk/list-faults.js';
+import { faultSentence, faultWords } from '../../desk/fault-words.js';
 import {
-    isOpenChoice, plannedOf, proposalsOf, refusedEvent, relinked, wantedOf,
+    choiceOf, firstLabel, isOpenChoice, keptOf, missingWords, plannedOf, proposalsOf, refusedEvents, relinked, wantedOf,
 } from '../../desk/relink-model.js';
 
 const [pal, drop] = [rateOf('25'), rateOf('df')];
@@ -53,6 +55,34 @@ test('as the document has lines: BOM, CR, blanks, notes, a source to the end of 
     assert.ok(!isSpeed(events[0]));
     assert.equal(readList('001 X A C 00:00:00:00 00:00:01:00 06:00:00:00 06:00:01:00\n', pal).events.some(isForPicture),
         false);
+});
+
+test('blanks are spaces and tabs, and nothing else', () => {
+    assert.equal(readList('TITLE:\t \u00a0A\u3000 \t\r\n', pal).title, '\u00a0A\u3000');
+    assert.equal(readList('TITLE: A\r\r\n', pal).title, 'A\r');
+    const [event] = readList('1 X V C 00:00:00:00 00:00:01:00 06:00:00:00 06:00:01:00\n\t\u00a0 \n', pal).events;
+    assert.deepEqual(event.notes, ['\u00a0']);
+});
+
+test('one mark of bytes alone is left out, and a line that is no UTF-8 is told', () => {
+    const bytes = (...texts) => Uint8Array.from(texts.flatMap((text) => [...new TextEncoder().encode(text)]));
+    assert.equal(readList(bytes('\ufeffTITLE: A\n'), pal).title, 'A');
+    assert.equal(readList(bytes('\ufeff\ufeffTITLE: A\n'), pal).title, '');
+    assert.equal(readList(bytes('TITLE: \ufffd\n'), pal).title, '\ufffd');
+    assert.deepEqual(readList(Uint8Array.from([65, 10, 66, 0xc3, 10, 65]), pal).fault, { line: 2, code: 21 });
+});
+
+test('the ten thousandth event with a frame is refused', () => {
+    const event = '1 BL V C 00:00:00:00 00:00:00:01 06:00:00:00 06:00:00:01\n';
+    const empty = '1 BL V C 00:00:00:00 00:00:00:00 06:00:00:00 06:00:00:00\n';
+    assert.equal(readList(empty + event.repeat(9999) + empty, pal, false).fault, null);
+    assert.deepEqual(readList(empty + event.repeat(10000), pal, false).fault, { line: 10001, code: 30 });
+});
+
+test('a speed note counts behind a line with a fault, too', () => {
+    const event = '1 AX V C 00:00:00:00 00:00:02:00 06:00:00:00 06:00:01:00\n';
+    assert.deepEqual(readList(`${event}FCM: DROP FRAME\nM2 AX 050.0\n`, pal, false).fault, { line: 2, code: 26 });
+    assert.deepEqual(readList(`${event}FCM: DROP FRAME\n`, pal, false).fault, { line: 1, code: 28 });
 });
 
 test('what an import skips: cuts before dissolves lose nothing', () => {
@@ -157,7 +187,7 @@ test('what is imported has the clips and their labels', () => {
 });
 
 test('keys, speeds and lengths that differ are refused as the office would', () => {
-    const first = (text) => refusedEvent(plannedOf(readList(text, pal).events, false), false);
+    const first = (text) => refusedEvents(plannedOf(readList(text, pal).events, false), false)[0] ?? null;
     const labels = '00:00:00:00 00:00:01:00 06:00:00:00 06:00:01:00';
     const longer = '00:00:00:00 00:00:02:00 06:00:00:00 06:00:01:00';
     assert.deepEqual(first(`001 AX V K B ${labels}\n`), { line: 1, code: 85 });
@@ -166,5 +196,76 @@ test('keys, speeds and lengths that differ are refused as the office would', () 
     assert.equal(first(`001 AX V C ${labels}\n`), null);
     const [event] = readList(`001 AX V C ${longer}\n`, pal).events;
     assert.deepEqual([framesOf(event, true), framesOf(event, false)], [50, 25]);
-    assert.equal(refusedEvent([event], true), null);
+    assert.deepEqual(refusedEvents([event], true), []);
+});
+
+test('any clip is chosen, with any first frame, and is kept so; a source is left out', () => {
+    const [, trailer] = wanted;
+    const late = CLIPS[4];
+    const choice = choiceOf(trailer, late, pal, false);
+    assert.deepEqual(choice, { reel: 'C0000005', title: 'LATE NEWS', how: 'chosen', shift: 1080000 });
+    // 5 seconds in the list, which begins to use the clip there; and a clip that has none of its labels.
+    assert.equal(firstLabel(trailer, choice.shift, pal), '12:00:05:00');
+    const short = clip('C0000009', 'SHORT', '02:00:00:00', 300);
+    assert.equal(firstLabel(trailer, choiceOf(trailer, short, pal, false).shift, pal), '02:00:00:00');
+    assert.equal(missingWords(trailer, late, choice.shift, pal, false), '');
+    assert.equal(missingWords(trailer, late, choice.shift - 126, pal, false),
+        'The list shows 11:59:59:24 to 12:00:09:24; the clip has 12:00:00:00 to 12:10:00:00.');
+    const moved = { ...choice, shift: choice.shift + 10 };
+    const kept = proposalsOf(trailer, CLIPS, pal, false, { [trailer.key]: keptOf(moved) });
+    assert.deepEqual([kept[0].reel, kept[0].shift, kept[0].how], ['C0000005', 1080010, 'kept']);
+    // What was kept of a clip that is gone, or hasn't the frames any more, isn't proposed.
+    const gone = proposalsOf(trailer, CLIPS, pal, false, { [trailer.key]: 'C0000009 5' });
+    assert.deepEqual(gone, proposalsOf(trailer, CLIPS, pal, false, {}));
+    const chosen = new Map([[trailer.key, moved]]);
+    assert.deepEqual(relinked(events, chosen, START, pal, false).map((each) => [each.source, each.from]),
+        [['C0000005', 1080135], ['BL', 0]]);
+});
+
+// Of each line the code at its end is expected, none where there is none.
+const FAULTY = `TITLE: FAULTY
+FCM: DROP FRAME
+001  BL       V     C        00:00:00:00 00:00:10:00 06:00:00:00 06:00:10:00
+002  BL       V     C        00:00:00:00 00:00:10:00 06:00:09:00 06:00:19:00
+003  BL       V     C        00:00:00:00 00:00:10:00 06:00:20:00
+004  C0000009 V     C        00:00:00:00 00:00:10:00 06:00:20:00 06:00:30:00
+005  C0000001 V     C        00:00:00:00 00:00:10:00 06:00:30:00 06:00:40:00
+006  C0000001 V     C        10:00:00:00 10:00:10:00 06:00:40:00 06:00:50:00
+007  C0000001 V     D    300 10:00:00:00 10:00:10:00 06:00:50:00 06:01:00:00
+008  BL       V     C        00:00:00:00 00:00:10:25 06:01:00:00 06:01:10:00
+009  BL       V     C        00:00:00:00 00:00:11:00 06:01:10:00 06:01:20:00
+010  BL       V     C        00:00:00:00 00:00:20:00 06:01:20:00 06:01:30:00
+M2   BL       050.0          00:00:00:00
+011  BL       V     K B      00:00:00:00 00:00:10:00 06:01:30:00 06:01:40:00
+012  BL       A     C        00:00:00:00 00:00:10:00 06:00:00:00 06:00:10:00
+013  BL       V     C        00:00:00:00 00:00:10:00 05:59:55:00 06:00:05:00
+014  BL       V     C        00:00:00:00 00:00:10:00 07:00:00:00 07:00:10:00
+015  \ufffd        V     C        00:00:00:00 00:00:10:00 08:00:00:00 08:00:10:00
+`;
+
+test('all faults of a list at once, each with its line', () => {
+    const news = { reel: 'C0000001', state: 'active', first: '10:00:00:00', frames: 15000, tape: 1, umid: '',
+        title: 'NEWS' };
+    const into = { rate: pal, start: START, number: 7, ignore: false, sources: new Map([['C0000001', news]]),
+        blocks: [{ number: 3, source: 'BARS', place: 90100, frames: 50 }] };
+    const bytes = new TextEncoder().encode(FAULTY);
+    bytes[bytes.lastIndexOf(0xbd)] = 0xff; // the last line isn't UTF-8
+    const faults = faultsOf(bytes, into);
+    assert.deepEqual(faults.map(({ line, code }) => [line, code]), [[2, 26], [4, 75], [5, 22], [6, 77], [7, 79],
+        [9, 80], [10, 25], [11, 28], [12, 84], [14, 85], [16, 86], [17, 75], [18, 21]]);
+    assert.equal(faultWords(faults[1]), '75 Overlap. It lies over line 3, from 06:00:09:00 on.');
+    assert.match(faultSentence(faults[1]), /^75 Overlap\. .* It lies over line 3, from 06:00:09:00 on\.$/);
+    assert.match(faultWords(faults[11]), /It lies over item 3 BARS, from 07:00:04:00 on\.$/);
+    assert.match(faultSentence(faults[6]), /^25 BadLabel\. Line 10\. 2 LabelRange\./);
+    assert.match(faultWords(faults[6]), /^25 BadLabel\. .* 2 LabelRange\.$/);
+    assert.deepEqual(faultsOf(FAULTY, { ...into, ignore: true }).filter(({ code }) => code === 28), []);
+    assert.deepEqual(readAll(bytes, pal).events.length, 12);
+    assert.deepEqual(faultsOf(NIGHT, into).map(({ line, code }) => [line, code]), [[5, 79]]);
+});
+
+test('as many events as a list may have', () => {
+    const line = (number) => `1 BL V C 00:00:00:00 00:00:00:01 ${number} ${number}`;
+    const text = Array.from({ length: 10000 }, () => line('06:00:00:00')).join('\n');
+    const into = { rate: pal, start: START, number: 7, ignore: true, sources: new Map(), blocks: [] };
+    assert.equal(faultsOf(text, into).find(({ code }) => code === 30)?.line, 10000);
 });

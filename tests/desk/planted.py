@@ -46,14 +46,14 @@ BUGS = {
     'doubt-forgotten': (
         'plan-changes.js', 'const kept = taken(this.key);', 'const kept = null;', ['wholes']),
     'scan-joined': (
-        'scans.js', "form.inputs[next].value = '';", '', ['scanned']),
+        'scans.js', "form.inputs[into].value = '';", '', ['scanned']),
     'typed-overwritten': (
         'day-edit-forms.js', 'if (offered?.number === block.number && edit.typed.size > 0) {', 'if (false) {',
         ['typed']),
     'next-swallowed': (
         'form.js', 'if (this.doubt.values || !inDoubt) return;', 'return;', ['swallowed']),
     'file-twice': (
-        'bulk.js', 'const known = this.store.asBefore(sum, rows);', 'const known = rows;', ['bulk']),
+        'report.js', 'const known = this.store.asBefore(sum, rows);', 'const known = rows;', ['bulk']),
     'closed-unasked': (
         'bulk-run.js', 'if (runs.size > 0) event.preventDefault();', '', ['bulk']),
     'moved-replaced': (
@@ -62,6 +62,45 @@ BUGS = {
         'pull-model.js', 'if (!tape) continue;', 'if (!tape || tape.slot === null) continue;', ['models']),
     'history-full': (
         'history.js', 'const MOST_ITEMS = 20000;', 'const MOST_ITEMS = 20000000;', ['models']),
+    'redo-without-dissolve': (
+        'history.js', 'return this.last(this.undone);',
+        "const entry = this.last(this.undone);\n        return entry && { ...entry, add: entry.add.map((piece) => "
+        "({ ...piece, kind: 'C', mix: 0 })) };", ['redone']),
+    'redo-behind-a-change': ('history.js', 'this.undone = [];\n        this.keep();', 'this.keep();', ['redone']),
+    'undo-of-another-day': ('history.js', 'this.key = `${place}/history`;', "this.key = 'history';", ['redone']),
+    'trim-snaps-always': (
+        'timeline-press.js', 'each !== block);\n        const near = event.shiftKey ? -1 : SNAPS * timeline.perPixel;',
+        'each !== block);\n        const near = SNAPS * timeline.perPixel;', ['trims']),
+    'recalled-lent-to': (
+        'view-clips.js', "offers.filter((each) => each.state === 'open')", 'offers', ['recalled']),
+    'paper-cut': ('sheet.js', 'const lines = rows.map(', 'const lines = rows.slice(0, 500).map(', ['rows']),
+    'file-cut': ('sheet.js', 'const rows = what.rows.map(', 'const rows = what.rows.slice(0, 500).map(', ['rows']),
+    'last-day-unread': ('planned-where.js', 'day <= last', 'day < last', ['finds']),
+    'import-unlooked': (
+        'day-list-forms.js', 'values.before = await forms.blocksNow();', 'values.before = view.day.blocks;',
+        ['imports']),
+    'out-shows-all': (
+        'shelf-model.js', "if (shown === 'out' && (!row.tape || row.slot !== null)) return false;", '', ['out']),
+    'scan-as-typed': ('view-vault.js', 'values.barcode = values.barcode.toUpperCase();', '', ['scanned']),
+    'bulk-leaves-doubt': ('bulk-run.js', 'if (row.state) continue;', 'if (row.state || row.doubt) continue;', ['bulk']),
+    'pull-by-tape': (
+        'pull-model.js', '(one.slot ?? Infinity) - (other.slot ?? Infinity) || one.tape - other.tape',
+        'one.tape - other.tape', ['models']),
+    'csv-unquoted': ('csv.js', "`\"${text.replaceAll('\"', '\"\"')}\"`", '`\"${text}\"`', ['models']),
+    'draft-elsewhere': (
+        'form.js', '`${this.what.place}/${this.what.name}/${name}`', '`${this.what.name}/${name}`', ['drafts']),
+    'seal-unasked': (
+        'day-list-forms.js', "confirm: () => `Day ${view.number} is then sealed for good: its items never change.`,", '',
+        ['questions']),
+    'parts-as-one-batch': (
+        'batch-form.js', '/asrun/${values.batch + index}`', '/asrun/${values.batch}`', ['split']),
+    'refused-item-missed': ('plan-changes.js', '[(refusal.item ?? 0) - 1]', '[refusal.item ?? 0]', ['wholes']),
+    'kept-at-logout': ('sign-on.js', 'forgetAll();\n', '\n', ['login']),
+    'read-overtakes': ('requests.js', '[this.turn, this.reading.get(path)]', '[this.turn]', ['models']),
+    'label-of-drop': (
+        'timecode.js', 'Math.floor((rest - 2) / DROP_MINUTE)', 'Math.floor((rest - 1) / DROP_MINUTE)', ['rules']),
+    'list-blanks': (
+        'edl.js', "{ title: text.slice(6).replace(BLANKS, '') }", '{ title: text.slice(6).trim() }', ['rules']),
     'gateway-refuses': (
         'office.js', '(status < 500 || value.code === 100 || value.code === 501)', 'true', ['gateway']),
 }
@@ -88,7 +127,7 @@ def tries(wanted):
         try:
             words = [sys.executable, str(TOP / '.ci' / 'desk'), *BUGS[name][3]]
             done = subprocess.run(words, env={**os.environ, 'DESK': str(folder / 'desk')}, stdout=subprocess.PIPE,
-                                  stderr=subprocess.STDOUT, stdin=subprocess.DEVNULL, timeout=300, check=False)
+                                  stderr=subprocess.STDOUT, stdin=subprocess.DEVNULL, timeout=1200, check=False)
         finally:
             shutil.rmtree(folder)
         said = done.stdout.decode().splitlines()

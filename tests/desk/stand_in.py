@@ -100,7 +100,7 @@ class Handler(http.server.BaseHTTPRequestHandler):
             self.answer(status, 'application/json', json.dumps(refusal).encode())
             return
         with front.turn:
-            office = http.client.HTTPConnection('127.0.0.1', front.office_port, timeout=30)
+            office = http.client.HTTPConnection('127.0.0.1', front.office_port, timeout=120)
             office.request(self.command, self.path, body)
             answer = office.getresponse()
             status, kind, text = answer.status, answer.getheader('Content-Type'), answer.read()
