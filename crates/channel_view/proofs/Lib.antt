@@ -15,3 +15,4 @@ mod PartChangeLemmas
 mod PartLendLemmas
 pub mod PartLemmas
 pub mod LabelLemmas
+pub mod KnownLemmas

@@ -12,7 +12,7 @@ use Rattle.channel_view_model.specs.Rules.{KeepsRules}
 use Rattle.channel_view_model.specs.Solo.{own_part, feed, outcomes_to, replies_to, is_grant_of, lends}
 use Rattle.channel_view_model.proofs.RuleLemmas.{KeepsRules-after}
 use Rattle.channel_view_model.proofs.WalkLemmas.{found_planned}
-use Rattle.channel_view_decisions.proofs.RunLemmas.{feed_kept, feeds_law}
+use Rattle.channel_view_rules.proofs.RunLemmas.{feed_kept, feeds_law}
 use Rattle.channel_view.specs.Runs.{kept, kept_outcomes}
 use Rattle.channel_view.specs.Parts.{rows_part, requests_part, IsClosed, IsClosedPart}
 use Rattle.channel_view.proofs.PartTableLemmas.{equal, filter-filter}

@@ -26,8 +26,8 @@ use Rattle.channel_view_model.specs.Solo.{Event, Asked, Granted, Withdrawn, view
 use Rattle.channel_view_model.specs.Solo.{hears, own_part, events_of, owns_after, heard_of, feed_from, feed}
 use Rattle.channel_view_model.specs.Solo.{is_grant_of, lends}
 use Rattle.channel_view_model.proofs.ViewLemmas.{view_of-after_own, view_of-after_other}
-use Rattle.channel_view_decisions.proofs.LenderLemmas.{any_alter}
-use Rattle.channel_view_decisions.proofs.RunLemmas.{owns_next}
+use Rattle.channel_view_rules.proofs.LenderLemmas.{any_alter}
+use Rattle.channel_view_rules.proofs.RunLemmas.{owns_next}
 use Rattle.channel_view.specs.Parts.{IsClosed}
 use Rattle.channel_view.proofs.PartTableLemmas.{equal}
 

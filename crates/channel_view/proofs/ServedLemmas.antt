@@ -18,7 +18,7 @@ use Rattle.channel_view_model.specs.Solo.{purge}
 use Rattle.channel_view.specs.Requests.{UnlessUnavailable, rows_after, is_made, changes_at, changes, stop_after}
 use Rattle.channel_view.specs.Runs.{kept, kept_outcomes, stop_after_all, in_doubt_after, in_doubt_after_all, MayRemain}
 use Rattle.channel_view_model.proofs.ViewLemmas.{view_of-after_other}
-use Rattle.channel_view_decisions.proofs.RunLemmas.{alone_law, purge_law}
+use Rattle.channel_view_rules.proofs.RunLemmas.{alone_law, purge_law}
 
 nothing_made : (c : ℕ) (ch : Change) (rows : Centre) → is_made ch ≡ false → changed c ch rows ≡ rows
 unfolding changed

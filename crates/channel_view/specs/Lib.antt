@@ -5,3 +5,4 @@ pub mod Again
 pub mod Places
 pub mod Parts
 pub mod Revisions
+pub mod Known

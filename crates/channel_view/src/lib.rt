@@ -16,7 +16,10 @@
 //! - [`laws`] says the same of any list of requests, and of two stores: what the channel sees alike in both is answered
 //!   alike. A set of channels to which no other lends is answered alike without the others' rows and requests.
 //!
-//! [`MemRows`] is a store of lists in memory.
+//! [`MemRows`] is a store of lists in memory. [`RecentDays`] is a store over another one, which has at hand the days that
+//! were asked for or changed last, since who works on a day sends command after command, and each needs all its items.
+//! It asks the one below for a day once, and each change goes there (`specs/Known`). It holds at most [`MOST_DAYS`] days
+//! (`few`), and none where no memory is there for it.
 //!
 //! [`run`] takes the room for all outcomes first: refused, nothing was done (`err`). A [`Part`] holds the
 //! answers to what is asked and nothing else (`IsPartOf`). [`MemRows`] stands for its lists where these keep
@@ -24,22 +27,25 @@
 //! `rules`).
 #![tactic(auto)]
 
+mod known;
 pub mod laws;
 mod lending;
 mod mem;
 mod mem_days;
+mod recent;
 mod requests;
 mod runs;
 
 pub use channel_plan::{At, Code, PlanRow, Refusal};
-pub use channel_view_decisions::{decide, decide_part};
 pub use channel_view_model::{
     AiringCommand, Airings, CentreRows, Change, Command, DayCommand, DayNumber, Days, Mix, Need,
     Outcome, Part, Reply, RowStore, SourcesAsked, Table, TableFault, TableText, Upload,
     VaultChange, VaultCommand, View,
 };
-pub use channel_view_rules::keeps_rules;
+pub use channel_view_rules::{decide, decide_part, keeps_rules};
+pub use known::MOST_DAYS;
 pub use mem::MemRows;
+pub use recent::RecentDays;
 pub use requests::{handle, prepare};
 pub use runs::run;
 pub use timecode::Unavailable;

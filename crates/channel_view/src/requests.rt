@@ -12,10 +12,10 @@ ghost use Rattle.channel_view_model.specs.Store.{WhileClean};
 ghost use Rattle.channel_view.specs.Requests.{UnlessUnavailable, Prepares, rows_after, stop_after};
 ghost use Rattle.channel_view.specs.Runs.{in_doubt_after, MayRemain};
 
-use channel_view_decisions::decide_part;
 use channel_view_model::{
     Change, Command, Need, Outcome, Part, Reply, RowStore, Table, TableFault, TableText,
 };
+use channel_view_rules::decide_part;
 use std::alloc::Global;
 use timecode::Unavailable;
 

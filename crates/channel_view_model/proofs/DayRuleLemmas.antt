@@ -7,10 +7,10 @@ use Rattle.std.specs.List.{list_all}
 use Rattle.std.proofs.lemmas.Bool.Decides.{nat_tests}
 use Rattle.std.proofs.lemmas.List.Elements.{All-tail}
 use Rattle.timecode.specs.Counting.{day_length}
-use Rattle.timecode.specs.Rate.{rate_text}
+use Rattle.timecode.specs.Rate.{is_same_rate}
 use Rattle.channel_plan.specs.declared.plan.PlanRow.{PlanRow}
 use Rattle.channel_plan.specs.declared.refusal.Code.{Code}
-use Rattle.channel_plan.specs.declared.refusal.Code.TheVariants.{EmptyItem, PastDayEnd, MixLong, ClipRetired, Withdrawn}
+use Rattle.channel_plan.specs.declared.refusal.Code.TheVariants.{PastDayEnd, MixLong, ClipRetired, Withdrawn}
 use Rattle.channel_plan.specs.declared.refusal.Code.TheVariants.{OutsideWindow, RateDiffers}
 use Rattle.channel_plan.specs.declared.refusal.Refusal.{Refusal}
 use Rattle.channel_plan.specs.Refusal.{refused}
@@ -27,17 +27,17 @@ use Rattle.playlist_core.specs.declared.item.NewItem.{NewItem}
 use Rattle.playlist_core.specs.declared.source.Source.{Source}
 use Rattle.playlist_core.specs.declared.source.Source.TheVariants.{Black, Bars, Own as OwnClip, Lent as LentClip}
 use Rattle.playlist_core.specs.declared.day.DayState.{DayState}
-use Rattle.playlist_core.specs.declared.day.DayState.TheVariants.{NotThere, Open, Sealed}
+use Rattle.playlist_core.specs.declared.day.DayState.TheVariants.{Open, Sealed}
 use Rattle.vault_core.specs.Window.{is_in}
 use Rattle.playlist_core.specs.Order.{put}
 use Rattle.playlist_core.specs.Picture.{first_painted, first_empty}
 use Rattle.playlist_core.specs.Source.{SourcesSeen, found}
 use Rattle.playlist_core.specs.Item.{is_kind, numbered}
-use Rattle.playlist_core.specs.Day.{Day, KeepsDayRules, if_open, unless, range_fault, row_fault, source_fault}
+use Rattle.playlist_core.specs.Day.{Day, KeepsDayRules, unless, range_fault, row_fault, source_fault}
 use Rattle.playlist_core.specs.Day.{unless_taken, with_number, free_number, item_of, item_in, item_for, with_item}
 use Rattle.playlist_core.specs.Day.{without_item, day_opened, day_sealed, number_of, number_removed, unless_recalled}
 use Rattle.playlist_core.specs.Day.{unless_outside, unless_empty, is_recalled, is_outside, picture_in}
-use Rattle.playlist_core.proofs.AddLemmas.{accepted, rules-with_item}
+use Rattle.playlist_core.proofs.AddLemmas.{accepted, for_open, opened, passed, rules-with_item}
 use Rattle.playlist_core.proofs.RemoveLemmas.{rules-without_item}
 use Rattle.playlist_edl.specs.Importing.{HasShortMix, is_skipped, new_of, item_of_kind, item_of_event, with_taken}
 use Rattle.playlist_edl.specs.Importing.{day_after, go_on, after_events, unless_faulty, events_in, import_of, counts_of}
@@ -63,17 +63,6 @@ use Rattle.channel_view_model.specs.Revision.{SaidRevision, is_wipe, is_said, is
 use Rattle.channel_view_model.specs.Revising.{taken_out, day_without, kind_said, of_kind, put_in, day_with, and_then}
 use Rattle.channel_view_model.specs.Revising.{at_place, in_turn, day_revised}
 use Rattle.channel_view_model.specs.Rules.{holds, row_holds, source_holds, is_there}
-
-passed : {X : Type 0} (b : Bool) (e : Refusal) (r : Result X Refusal) (x : X) → (if b then Err e else r) ≡ Ok x
-    → (b ≡ false) × (r ≡ Ok x)
-passed true e r x h = absurd (cc)
-passed false e r x h = (refl, h)
-
--- what is done in an open day
-opened : {X : Type 0} (s : DayState) (r : Result X Refusal) (x : X) → if_open s r ≡ Ok x → (s ≡ Open) × (r ≡ Ok x)
-opened NotThere r x h = absurd (cc)
-opened Open r x h = (refl, h)
-opened Sealed r x h = absurd (cc)
 
 module _ (plan : PlanRow) (seen : SourcesSeen) (n : ℕ) where
   abbrev pub is_held : Item → Bool
@@ -107,18 +96,18 @@ module _ (plan : PlanRow) (seen : SourcesSeen) (n : ℕ) where
       elim g.offer.withdrawn
       as (λ b.
       (if b then Some Withdrawn else if not (is_in g.offer.window n) then Some OutsideWindow
-      else if not (bytes_eq (rate_text g.offer.rate) (rate_text plan.rate)) then Some RateDiffers
+      else if not (is_same_rate g.offer.rate plan.rate) then Some RateDiffers
       else range_fault g.offer.src_first g.offer.frames new) ≡ None
       → row_holds plan n (numbered m source new) (Some (inr g)) ≡ true) [
         | true ↦ λ e. absurd (cc)
         | false ↦ elim (is_in g.offer.window n)
             as (λ b.
             (if not b then Some OutsideWindow
-            else if not (bytes_eq (rate_text g.offer.rate) (rate_text plan.rate)) then Some RateDiffers
+            else if not (is_same_rate g.offer.rate plan.rate) then Some RateDiffers
             else range_fault g.offer.src_first g.offer.frames new) ≡ None
-            → (b && bytes_eq (rate_text g.offer.rate) (rate_text plan.rate)
+            → (b && is_same_rate g.offer.rate plan.rate
             && holds g.offer.src_first g.offer.frames (numbered m source new)) ≡ true) [
-              | true ↦ elim (bytes_eq (rate_text g.offer.rate) (rate_text plan.rate))
+              | true ↦ elim (is_same_rate g.offer.rate plan.rate)
                   as (λ b. (if not b then Some RateDiffers else range_fault g.offer.src_first g.offer.frames new) ≡ None
                   → (b && holds g.offer.src_first g.offer.frames (numbered m source new)) ≡ true) [
                     | true ↦ λ e. rw first (in_range g.offer.src_first g.offer.frames m source new e)
@@ -207,13 +196,9 @@ module _ (plan : PlanRow) (seen : SourcesSeen) (n : ℕ) where
 
     held_for : (new : NewItem) (item : Item) → new.mix ≤ 999 → is_kind new.kind ≡ true
         → item_for day plan seen new ≡ Ok item → IsHeld (with_item item day) × (is_there day.state ≡ true)
-    unfolding item_for
     held_for new item mix kind made =
-        let open_day =
-        opened day.state (if new.frames == 0 then Err (refused EmptyItem) else item_in day plan seen new) item made
-        in
-        let some = passed (new.frames == 0) (refused EmptyItem) (item_in day plan seen new) item open_day.1 in
-        (held-with_item new item open_day.0 (grind (arith, nat_tests, some.0)) mix kind some.1, ap is_there open_day.0)
+        let taken = for_open day plan seen new item made in
+        (held-with_item new item taken.0 taken.1 mix kind taken.2, ap is_there taken.0)
 
   -- the items of a list, one after another
   kind_is : (word : List ℕ) (kind : EditKind) → kind_of word ≡ Some kind → is_kind kind ≡ true

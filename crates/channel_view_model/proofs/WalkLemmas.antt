@@ -8,7 +8,8 @@ use Rattle.std.proofs.lemmas.Bool.Decides.{nat_tests}
 use Rattle.std.proofs.lemmas.List.{drop_all}
 use Rattle.std.proofs.lemmas.List.Folds.{list_all-append}
 use Rattle.channel_plan.specs.declared.plan.PlanRow.{PlanRow}
-use Rattle.channel_view_model.specs.Tables.{Table, others_at, rows_alone, rows_in_front, rows_behind, rows_of}
+use Rattle.channel_view_model.specs.Tables.{Table, rows_alone, rows_of}
+use Rattle.channel_view_model.specs.Walk.{others_at, rows_in_front, rows_behind}
 use Rattle.channel_view_model.specs.Tables.{is_in_order}
 use Rattle.vault_core.specs.declared.tape.Tape.{Tape}
 use Rattle.vault_core.specs.declared.clip.Clip.{Clip}

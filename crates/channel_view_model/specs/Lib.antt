@@ -1,4 +1,5 @@
 pub mod Tables
+pub mod Walk
 pub mod Days
 pub mod Revision
 pub mod Revising

@@ -1,11 +1,11 @@
 -- Part of the promise: the integrity rules of the set.
 use Rattle.std.specs.Prelude.{◌≡◌, ◌⊎◌, ℕ, ◌+◌, List, [], ◌∷◌, Bool, true, false, ◌&&◌, ◌==◌, nat_lt, nat_le, length}
-use Rattle.std.specs.Prelude.{Option, Some, None, bytes_eq}
+use Rattle.std.specs.Prelude.{Option, Some, None}
 use Rattle.std.proofs.Common.{inl, inr}
 use Rattle.std.specs.List.{list_any, list_all, AllByRecursion}
 use Rattle.channel_plan.specs.declared.plan.PlanRow.{PlanRow}
 use Rattle.channel_plan.specs.Plan.{is_plan_in_order}
-use Rattle.timecode.specs.Rate.{rate_text}
+use Rattle.timecode.specs.Rate.{is_same_rate}
 use Rattle.timecode.specs.Counting.{day_length}
 use Rattle.vault_core.specs.declared.clip.Clip.{Clip}
 use Rattle.vault_core.specs.Window.{is_in}
@@ -47,7 +47,7 @@ abbrev pub row_holds : PlanRow → ℕ → Item → Option (Clip ⊎ Grant) → 
 row_holds plan n i None = false
 row_holds plan n i (Some (inl k)) = holds k.src_first k.frames i
 row_holds plan n i (Some (inr g)) =
-    is_in g.offer.window n && bytes_eq (rate_text g.offer.rate) (rate_text plan.rate)
+    is_in g.offer.window n && is_same_rate g.offer.rate plan.rate
     && holds g.offer.src_first g.offer.frames i
 
 abbrev pub source_holds : PlanRow → ℕ → SourcesSeen → Item → Source → Bool

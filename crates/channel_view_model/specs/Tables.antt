@@ -1,7 +1,7 @@
 -- Part of the promise: tables of all channels, and what can be asked of the rows of a kind.
-use Rattle.std.specs.Prelude.{ℕ, List, [], ◌∷◌, Bool, true, not, ◌&&◌, ◌||◌, ◌==◌, nat_lt, nat_le, take, drop, map}
-use Rattle.std.specs.Prelude.{filter, find, count_by, if◌then◌else◌}
-use Rattle.std.specs.List.{list_any, list_all, position_or_len}
+use Rattle.std.specs.Prelude.{ℕ, List, [], ◌∷◌, Bool, true, ◌&&◌, ◌||◌, ◌==◌, nat_lt, nat_le, map, filter, find}
+use Rattle.std.specs.Prelude.{count_by, if◌then◌else◌}
+use Rattle.std.specs.List.{list_any, list_all}
 use Rattle.std.specs.Option.{option_map}
 use Rattle.vault_core.specs.Questions.{Questions, alter}
 
@@ -30,16 +30,6 @@ rows_alone table = map (λ r. r.1) table
 -- the rows of channel c, as a list
 abbrev pub rows_of : {A : Type 0} → ℕ → Table A → List A
 rows_of c table = rows_alone (filter (λ r. r.0 == c) table)
-
--- of rows of which those of channel c come first: where the others begin, those in front and those behind
-abbrev pub others_at : {A : Type 0} → ℕ → Table A → ℕ
-others_at c table = position_or_len (λ r. not (r.0 == c)) table
-
-abbrev pub rows_in_front : {A : Type 0} → ℕ → Table A → Table A
-rows_in_front c table = take (others_at c table) table
-
-abbrev pub rows_behind : {A : Type 0} → ℕ → Table A → Table A
-rows_behind c table = drop (others_at c table) table
 
 -- x in front of the first that comes after it, or at the end
 abbrev pub put : {R : Type 0} → (R → Bool) → R → List R → List R

@@ -88,7 +88,7 @@ impl View {
             SourcesAsked::Nothing => Ok(SourcesFound::nothing(alloc)),
             SourcesAsked::One(source) => {
                 let rows = SourceRows::of(self.own.clips(), self.lent.grants());
-                alone(alloc, rows.find(&source))
+                single_source(alloc, rows.find(&source))
             }
             SourcesAsked::All => Ok(SourcesFound {
                 clips: Vec::from_slice(alloc, self.own.clips())?,
@@ -123,7 +123,7 @@ pub fn nothing_aired(alloc: Global, plan: &PlanRow) -> Result<AiredDay, Unavaila
 }
 
 // Just this clip or lent clip.
-fn alone(alloc: Global, row: Option<SourceRow<'_>>) -> Result<SourcesFound, Unavailable>
+fn single_source(alloc: Global, row: Option<SourceRow<'_>>) -> Result<SourcesFound, Unavailable>
     ensures { IfOk result (λ found. (found.clips.items ≡ clips_of (option_map row_seen row.entry))
         × (found.grants.items ≡ grants_of (option_map row_seen row.entry))) }
 {

@@ -3,3 +3,6 @@ pub mod PlaceLemmas
 pub mod NumberLemmas
 pub mod AiringWalkLemmas
 mod ViewRuleLemmas
+pub mod ItemLemmas
+pub mod LenderLemmas
+pub mod RunLemmas

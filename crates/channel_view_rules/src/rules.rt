@@ -2,7 +2,8 @@
 ghost use Rattle.std.specs.Prelude.{◌≡◌, ◌≤◌, ◌↔◌, ◌==◌, not, true, length, position, IfOk, IsTrue};
 ghost use Rattle.channel_plan.specs.Plan.{is_plan_in_order};
 ghost use Rattle.vault_core.specs.Rules.{KeepsOwnRules};
-ghost use Rattle.channel_view_model.specs.Tables.{others_at, rows_alone, rows_behind, rows_in_front};
+ghost use Rattle.channel_view_model.specs.Tables.{rows_alone};
+ghost use Rattle.channel_view_model.specs.Walk.{others_at, rows_behind, rows_in_front};
 ghost use Rattle.channel_view_model.specs.Rules.{KeepsRules, KeepsTables};
 
 use crate::airing_rules::keeps_airings;

@@ -4,7 +4,8 @@ use Rattle.std.proofs.Common.{length, replicate, refl, ap, ◌∙◌, append_ass
 use Rattle.std.specs.Prelude.{decimal}
 use Rattle.std.proofs.lemmas.Bool.Decides.{nat_tests}
 use Rattle.std.proofs.lemmas.Fmt.{decimal_digit, decimal_step}
-use Rattle.edl.specs.Written.{filled, number_text, padded, three_digits}
+use Rattle.timecode.specs.Decimal.{in_digits}
+use Rattle.edl.specs.Written.{number_text, padded, three_digits}
 
 tens : (n : ℕ) → 10 ≤ n → n < 100 → decimal n ≡ (48 + n / 10) ∷ (48 + n % 10) ∷ []
 tens n low high =
@@ -26,11 +27,11 @@ thousands n low high =
 with_zeros : List ℕ → List ℕ
 with_zeros digits = replicate (3 - length digits) 48 ++ digits
 
-pub filled_three : (n : ℕ) → n < 1000 → filled 3 n ≡ three_digits n
-unfolding filled three_digits with_zeros
+pub filled_three : (n : ℕ) → n < 1000 → in_digits 3 n ≡ three_digits n
+unfolding three_digits with_zeros
 filled_three n lt = by (nat_lt n 10) (nat_lt n 100) refl refl
   where
-    by : (one two : Bool) → nat_lt n 10 ≡ one → nat_lt n 100 ≡ two → filled 3 n ≡ three_digits n
+    by : (one two : Bool) → nat_lt n 10 ≡ one → nat_lt n 100 ≡ two → in_digits 3 n ≡ three_digits n
     by true two e f =
         let below : n < 10 = grind (arith, nat_tests) in
         let a : 0 ≡ n / 100 = omega arith in
@@ -48,8 +49,8 @@ filled_three n lt = by (nat_lt n 10) (nat_lt n 100) refl refl
         let a : n / 10 / 10 ≡ n / 100 = omega arith in
         ap with_zeros (hundreds n above lt) ∙ (λ i. (48 + a i) ∷ (48 + n / 10 % 10) ∷ (48 + n % 10) ∷ [])
 
-pub filled_four : (n : ℕ) → 1000 ≤ n → n < 10000 → filled 3 n ≡ (48 + n / 1000) ∷ three_digits (n % 1000)
-unfolding filled three_digits with_zeros
+pub filled_four : (n : ℕ) → 1000 ≤ n → n < 10000 → in_digits 3 n ≡ (48 + n / 1000) ∷ three_digits (n % 1000)
+unfolding three_digits with_zeros
 filled_four n low high =
     let a : n / 10 / 10 / 10 ≡ n / 1000 = omega arith in
     let b : n / 10 / 10 % 10 ≡ n % 1000 / 100 = omega arith in

@@ -13,13 +13,14 @@ use Rattle.timecode.specs.Counting.{day_length}
 use Rattle.timecode.specs.Label.{frame_text}
 use Rattle.timecode.specs.LabelReading.{has_label_form, has_number_at, is_mark, reading_of_text}
 use Rattle.timecode.specs.declared.rates.Rate.TheVariants.{F24, F25, F30, Df30}
+use Rattle.timecode.specs.Decimal.{in_digits}
 use Rattle.edl.specs.declared.event.Places.{Places}
 use Rattle.edl.specs.Line.{bad_label, label_frame, places_of, places_between, source_end, edit, edit_of, EventLine}
 use Rattle.edl.specs.Line.{event_line, event_of, event_of_fields}
 use Rattle.edl.specs.Text.{fields_of}
 use Rattle.std.proofs.lemmas.List.{append_assoc}
 use Rattle.edl.specs.Limits.{highest_event_number}
-use Rattle.edl.specs.Written.{OutEntry, edit_text, filled, place_text, places_text}
+use Rattle.edl.specs.Written.{OutEntry, edit_text, place_text, places_text}
 use Rattle.edl.specs.ReadBack.{CanBeReadBack, IsGraphic}
 use Rattle.edl.proofs.WrittenFields.{IsLabelWord, duration_words, edit_back, fields_back, labels_line, number_word}
 use Rattle.edl.proofs.WrittenFields.{written_fields}
@@ -244,7 +245,7 @@ event_words : (rate : Rate) (event : OutEntry) (duration : Option ℕ) (a b c d 
     → edit_of (event.kind ∷ duration_words duration) ≡ Some (edit event.kind duration)
     → places_of rate a b c d ≡ Ok places
     → event_of_fields rate
-    (filled 3 event.number ∷ event.reel ∷ event.channels ∷ event.kind
+    (in_digits 3 event.number ∷ event.reel ∷ event.channels ∷ event.kind
     ∷ (duration_words duration ++ (a ∷ b ∷ c ∷ d ∷ [])))
     ≡ Ok (event_line event.number event.reel event.channels (edit event.kind duration) places)
 unfolding event_of_fields duration_words

@@ -10,11 +10,12 @@ use Rattle.std.proofs.lemmas.List.{append_assoc}
 use Rattle.std.proofs.lemmas.Str.{digit_value-digit_char}
 use Rattle.std.proofs.lemmas.List.Elements.{All-weaker, All-nil, All-cons}
 use Rattle.std.proofs.lemmas.List.Splits.{slice_split_at, slice_split_none}
+use Rattle.timecode.specs.Decimal.{in_digits}
 use Rattle.edl.specs.Limits.{highest_event_number}
 use Rattle.edl.specs.Text.{fields_of, is_blank}
 use Rattle.timecode.specs.Decimal.{is_decimal}
 use Rattle.edl.specs.Line.{event_number, edit, edit_of}
-use Rattle.edl.specs.Written.{OutEntry, duration_text, edit_text, filled, number_text, three_digits}
+use Rattle.edl.specs.Written.{OutEntry, duration_text, edit_text, number_text, three_digits}
 use Rattle.edl.specs.ReadBack.{IsGraphic, IsWord, IsWrittenEdit, Cut, Dissolve, Wipe}
 use Rattle.edl.proofs.NumberLemmas.{filled_three, filled_four}
 use Rattle.edl.proofs.TextLemmas.{fields_of-blank, fields_of-is, fields_of-parts}
@@ -152,10 +153,10 @@ four_word n h =
     }
 
 -- a written number is read back
-pub number_word : (n : ℕ) → n ≤ highest_event_number → IsNumberWord n (filled 3 n)
+pub number_word : (n : ℕ) → n ≤ highest_event_number → IsNumberWord n (in_digits 3 n)
 number_word n h = by (nat_lt n 1000) refl
   where
-    by : (three : Bool) → nat_lt n 1000 ≡ three → IsNumberWord n (filled 3 n)
+    by : (three : Bool) → nat_lt n 1000 ≡ three → IsNumberWord n (in_digits 3 n)
     by true e =
         let lt : n < 1000 = grind (arith, nat_tests) in
         subst (IsNumberWord n) (sym (filled_three n lt)) (three_word n (omega arith))
@@ -238,19 +239,19 @@ duration_few kind duration (Wipe m n g h) frames e = let same : n ≡ frames = c
 -- the fields that were written
 unfoldable pub written_fields : OutEntry → List ℕ → List ℕ → List ℕ → List ℕ → List (List ℕ)
 written_fields event a b c d =
-    filled 3 event.number ∷ event.reel ∷ event.channels ∷ event.kind
+    in_digits 3 event.number ∷ event.reel ∷ event.channels ∷ event.kind
     ∷ (duration_words event.duration ++ (a ∷ b ∷ c ∷ d ∷ []))
 
 -- what stands behind the digits of the number
 abbrev pub behind_number : OutEntry → List ℕ → List ℕ
 behind_number event labels =
-    replicate (5 - length (filled 3 event.number)) 32
+    replicate (5 - length (in_digits 3 event.number)) 32
     ++ (event.reel
     ++ (replicate (8 - length event.reel) 32 ++ 32 ∷ (event.channels ++ (replicate (5 - length event.channels) 32
     ++ 32 ∷ (event.kind ++ (replicate (4 - length event.kind) 32 ++ 32 ∷ (duration_text event.duration ++ labels)))))))
 
 pub number_in_front : (event : OutEntry) (labels : List ℕ)
-    → edit_text event ++ labels ≡ filled 3 event.number ++ behind_number event labels
+    → edit_text event ++ labels ≡ in_digits 3 event.number ++ behind_number event labels
 unfolding edit_text number_text
 number_in_front event labels = simp append_assoc
 
@@ -268,9 +269,10 @@ fields_back event a b c d number reel channels kind ha hb hc hd =
     in
     let word = number_word event.number number in
     ap fields_of (number_in_front event (labels_line a b c d))
-    ∙ field_apart (filled 3 event.number) _ (5 - length (filled 3 event.number)) (omega (arith, word.few)) word.some
+    ∙ field_apart (in_digits 3 event.number) _ (5 - length (in_digits 3 event.number)) (omega (arith, word.few))
+    word.some
     word.graphic
-    ∙ ap (λ (more : List (List ℕ)). filled 3 event.number ∷ more)
+    ∙ ap (λ (more : List (List ℕ)). in_digits 3 event.number ∷ more)
     (field_padded event.reel _ (8 - length event.reel) reel.some reel.graphic
     ∙ ap (λ (more : List (List ℕ)). event.reel ∷ more)
     (field_padded event.channels _ (5 - length event.channels) channels.some channels.graphic

@@ -13,10 +13,11 @@ use Rattle.std.specs.Char.{is_ascii_digit}
 use Rattle.timecode.specs.declared.rates.Rate.{Rate}
 use Rattle.timecode.specs.declared.rates.Rate.TheVariants.{F24, F25, F30, Df30}
 use Rattle.timecode.specs.Counting.{day_length}
+use Rattle.timecode.specs.Decimal.{in_digits}
 use Rattle.edl.specs.Limits.{most_events}
 use Rattle.edl.specs.Text.{lines_of, after_blanks, begins_event, is_blank, line_text, line_texts}
 use Rattle.edl.specs.Meaning.{Nothing, Titled, Moded, Edited, Noted, meaning_of, mode_of, rest_after}
-use Rattle.edl.specs.Written.{OutEntry, duration_text, edit_text, event_text, filled, line_of, list_text, mode_text}
+use Rattle.edl.specs.Written.{OutEntry, duration_text, edit_text, event_text, line_of, list_text, mode_text}
 use Rattle.edl.specs.Written.{number_text, padded, place_text, places_text, three_digits}
 use Rattle.edl.specs.ReadBack.{CanBeReadBack, IsGraphic, IsPlain, IsPrintable, IsStarNote, IsWrittenEdit, Cut, Dissolve}
 use Rattle.edl.specs.ReadBack.{Wipe}
@@ -84,9 +85,9 @@ kind_graphic kind duration (Wipe number frames g h) =
     All-cons IsPrintable 87 (three_digits number) (record { low = omega arith; high = omega arith })
     (graphic_printable (three_digits number) (three_graphic number g))
 
-number_printable : (n : ℕ) → All IsGraphic (filled 3 n) → All IsPrintable (number_text n)
+number_printable : (n : ℕ) → All IsGraphic (in_digits 3 n) → All IsPrintable (number_text n)
 unfolding number_text
-number_printable n h = padded_printable 5 (filled 3 n) h
+number_printable n h = padded_printable 5 (in_digits 3 n) h
 
 edit_printable : (rate : Rate) (event : OutEntry) → CanBeReadBack rate event → All IsPrintable (edit_text event)
 unfolding edit_text
@@ -155,7 +156,7 @@ line_begins rate event h =
     let word = number_word event.number h.number in
     let labels : List ℕ = places_text rate event in
     ap (λ (l : List ℕ). begins_event l) (number_in_front event labels)
-    ∙ ap is_ascii_digit (first_in_front (filled 3 event.number) (behind_number event labels) word.some) ∙ word.first
+    ∙ ap is_ascii_digit (first_in_front (in_digits 3 event.number) (behind_number event labels) word.some) ∙ word.first
 
 -- a line that ends with a word
 ends_with_word : (front word : List ℕ) → IsLabelWord word → is_blank (slice_index (front ++ word) 0) ≡ false

@@ -1,6 +1,7 @@
 -- An event of a list.
 use Rattle.std.specs.Prelude.{ℕ, Bool, ◌||◌, ◌==◌, List, Option, bytes_eq, codes}
 use Rattle.std.specs.List.{list_any}
+use Rattle.timecode.specs.Letters.{letter_V}
 
 -- places are frames of the day; the end of the source is exclusive
 pub record EventEntry : Type 0 where
@@ -17,6 +18,6 @@ pub record EventEntry : Type 0 where
   pub speed : Bool
   pub notes : List (List ℕ)
 
--- an event is for the picture where its channels are `B` or have a `V` (86) among them
+-- an event is for the picture where its channels are `B` or have a `V` among them
 abbrev pub is_picture : EventEntry → Bool
-is_picture event = bytes_eq event.channels (codes "B") || list_any (λ letter. letter == 86) event.channels
+is_picture event = bytes_eq event.channels (codes "B") || list_any (λ letter. letter == letter_V) event.channels

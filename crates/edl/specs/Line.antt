@@ -9,6 +9,7 @@ use Rattle.timecode.specs.declared.faults.TcFault.{TcFault}
 use Rattle.timecode.specs.Counting.{day_length}
 use Rattle.timecode.specs.Decimal.{is_decimal}
 use Rattle.timecode.specs.LabelReading.{reading_of_text}
+use Rattle.timecode.specs.Letters.{letter_K, letter_W}
 use Rattle.channel_plan.specs.declared.fault.LineFault.{LineFault}
 use Rattle.channel_plan.specs.declared.fault.LineFault.TheVariants.{FieldCount, EventNumber, EditKind, BadLabel}
 use Rattle.channel_plan.specs.declared.fault.LineFault.TheVariants.{SourceBackwards}
@@ -32,10 +33,10 @@ abbrev pub is_cut : List ℕ → Bool
 is_cut kind = bytes_eq kind (codes "C")
 
 abbrev pub is_mix : List ℕ → Bool
-is_mix kind = bytes_eq kind (codes "D") || ((slice_index kind 0 == 87) && is_decimal 3 (drop 1 kind))
+is_mix kind = bytes_eq kind (codes "D") || ((slice_index kind 0 == letter_W) && is_decimal 3 (drop 1 kind))
 
 abbrev pub is_key : List ℕ → Bool
-is_key kind = slice_index kind 0 == 75
+is_key kind = slice_index kind 0 == letter_K
 
 -- the word that says the kind, and a dissolve's or a wipe's duration in frames
 pub record EditWords : Type 0 where

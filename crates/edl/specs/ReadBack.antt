@@ -1,8 +1,9 @@
 -- What a written list is read back as.
 use Rattle.std.specs.Prelude.{◌≡◌, ◌≢◌, ℕ, ◌+◌, ◌-◌, ◌<◌, ◌≤◌, false, not, ◌==◌, if◌then◌else◌, List, [], ◌∷◌, length}
-use Rattle.std.specs.Prelude.{slice_index, count_by, All, Option, Some, None}
+use Rattle.std.specs.Prelude.{slice_index, count_by, codes, All, Option, Some, None}
 use Rattle.timecode.specs.declared.rates.Rate.{Rate}
 use Rattle.timecode.specs.Counting.{day_length}
+use Rattle.timecode.specs.Letters.{letter_W, star}
 use Rattle.edl.specs.Limits.{highest_event_number}
 use Rattle.edl.specs.Written.{OutEntry, three_digits}
 use Rattle.edl.specs.Entry.{EventEntry}
@@ -33,13 +34,14 @@ pub record IsPlain (most : ℕ) (text : List ℕ) : Type 0 where
 -- a note of 1 to 80 bytes that begins with `*`
 pub record IsStarNote (text : List ℕ) : Type 0 where
   pub plain : IsPlain 80 text
-  pub star : slice_index text 0 ≡ 42
+  pub star : slice_index text 0 ≡ star
 
 -- a cut without a duration, or a dissolve or a wipe with one
 pub data IsWrittenEdit : List ℕ → Option ℕ → Type 0 where
-  Cut : IsWrittenEdit (67 ∷ []) None
-  Dissolve : (frames : ℕ) → frames ≤ 999 → IsWrittenEdit (68 ∷ []) (Some frames)
-  Wipe : (number frames : ℕ) → number ≤ 999 → frames ≤ 999 → IsWrittenEdit (87 ∷ three_digits number) (Some frames)
+  Cut : IsWrittenEdit (codes "C") None
+  Dissolve : (frames : ℕ) → frames ≤ 999 → IsWrittenEdit (codes "D") (Some frames)
+  Wipe : (number frames : ℕ) → number ≤ 999 → frames ≤ 999
+      → IsWrittenEdit (letter_W ∷ three_digits number) (Some frames)
 
 -- what the caller of the writer keeps for an event to be read back
 pub record CanBeReadBack (rate : Rate) (event : OutEntry) : Type 0 where

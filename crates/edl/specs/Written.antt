@@ -1,11 +1,13 @@
 -- The text of a written list.
 use Rattle.std.specs.Prelude.{ℕ, ◌+◌, ◌-◌, ◌/◌, ◌%◌, ◌==◌, if◌then◌else◌, List, [], ◌∷◌, ◌++◌, length, replicate}
-use Rattle.std.specs.Prelude.{decimal, codes, Option, Some, None}
+use Rattle.std.specs.Prelude.{codes, Option, Some, None}
 use Rattle.std.specs.List.{flat_map}
 use Rattle.timecode.specs.declared.rates.Rate.{Rate}
 use Rattle.timecode.specs.Rate.{is_drop_frame}
 use Rattle.timecode.specs.Counting.{day_length}
+use Rattle.timecode.specs.Decimal.{in_digits}
 use Rattle.timecode.specs.Label.{frame_text}
+use Rattle.timecode.specs.Letters.{digit_0}
 
 -- An event to be written. Places are frames of the day; a source may end with the day.
 pub record OutEntry : Type 0 where
@@ -22,19 +24,15 @@ pub record OutEntry : Type 0 where
 
 -- three decimal digits
 unfoldable pub three_digits : ℕ → List ℕ
-three_digits n = (48 + n / 100) ∷ (48 + n / 10 % 10) ∷ (48 + n % 10) ∷ []
+three_digits n = (digit_0 + n / 100) ∷ (digit_0 + n / 10 % 10) ∷ (digit_0 + n % 10) ∷ []
 
 -- at the left of so many places
 abbrev pub padded : ℕ → List ℕ → List ℕ
 padded width text = text ++ replicate (width - length text) 32
 
--- the number in so many digits or more
-unfoldable pub filled : ℕ → ℕ → List ℕ
-filled digits n = replicate (digits - length (decimal n)) 48 ++ decimal n
-
 -- an event's number in three digits or more, at the left of the first five places
 unfoldable pub number_text : ℕ → List ℕ
-number_text n = padded 5 (filled 3 n)
+number_text n = padded 5 (in_digits 3 n)
 
 -- three digits, or as many blanks
 abbrev pub duration_text : Option ℕ → List ℕ

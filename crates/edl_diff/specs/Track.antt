@@ -4,6 +4,7 @@ use Rattle.std.specs.Prelude.{bytes_eq, codes}
 use Rattle.std.specs.Prelude.{false, Option, Some, None}
 use Rattle.std.specs.List.{list_any, slice_split}
 use Rattle.timecode.specs.Decimal.{decimal_number}
+use Rattle.timecode.specs.Letters.{letter_A, slash}
 use Rattle.edl.specs.Entry.{EventEntry, is_picture}
 use Rattle.edl_diff.specs.declared.track.Track.{Track}
 use Rattle.edl_diff.specs.declared.track.Track.TheVariants.{Picture, Sound}
@@ -14,11 +15,11 @@ all_tracks =
     Picture ∷ Sound 1 ∷ Sound 2 ∷ Sound 3 ∷ Sound 4 ∷ Sound 5 ∷ Sound 6 ∷ Sound 7 ∷ Sound 8 ∷ Sound 9 ∷ Sound 10
     ∷ Sound 11 ∷ Sound 12 ∷ Sound 13 ∷ Sound 14 ∷ Sound 15 ∷ Sound 16 ∷ []
 
--- `A` (65) is the first channel, and `A` before a number of one or two digits is the channel of that number
+-- `A` is the first channel, and `A` before a number of one or two digits is the channel of that number
 abbrev pub sound_named : List ℕ → Option ℕ
 sound_named word =
     if bytes_eq word (codes "A") then Some 1
-    else if slice_index word 0 == 65 then decimal_number 2 (drop 1 word) else None
+    else if slice_index word 0 == letter_A then decimal_number 2 (drop 1 word) else None
 
 abbrev pub is_number : ℕ → Option ℕ → Bool
 is_number n None = false
@@ -30,9 +31,8 @@ is_word_for n word =
     (bytes_eq word (codes "B") && n == 1) || (bytes_eq word (codes "AA") && nat_le n 2)
     || is_number n (sound_named word)
 
--- `/` (47)
 abbrev pub is_slash : ℕ → Bool
-is_slash letter = letter == 47
+is_slash letter = letter == slash
 
 -- An event's channels are words, between which `/` stands.
 abbrev pub is_sound : ℕ → List ℕ → Bool

@@ -7,7 +7,9 @@ use Rattle.std.specs.List.{list_any, IsAllAdjacentAnswer}
 use Rattle.std.proofs.lemmas.Bool.Decides.{nat_tests}
 use Rattle.std.proofs.lemmas.List.{get_or_default, get_or-set_same, get_or-set_other}
 use Rattle.std.proofs.lemmas.Slice.Eq.{bytes_eq-Decides}
-use Rattle.timecode.specs.Rate.{rate_text}
+use Rattle.timecode.specs.declared.rates.Rate.{Rate}
+use Rattle.timecode.specs.Rate.{is_same_rate}
+use Rattle.timecode.proofs.RateLemmas.{rate_is}
 use Rattle.umid.specs.BasicUmid.{basic_umid}
 use Rattle.vault_core.specs.declared.offer.Offer.{Offer}
 use Rattle.vault_core.specs.Rules.{are_apart}
@@ -81,19 +83,22 @@ bytes_on xs ys zs a b = (bytes_eq-Decides xs zs).1 ((bytes_eq-Decides xs ys).0 a
 bytes_self : (xs : List ℕ) → bytes_eq xs xs ≡ true
 bytes_self xs = (bytes_eq-Decides xs xs).1 refl
 
+same_rate_on : (a b c : Rate) → is_same_rate a b ≡ true → is_same_rate b c ≡ true → is_same_rate a c ≡ true
+same_rate_on a b c first second = subst (λ r. is_same_rate r c ≡ true) (sym (rate_is a b first)) second
+
 -- rates, from one grant to the next
 rate_on : (g h k : Grant) → g.owner ≤ h.owner → h.owner ≤ k.owner → differ_in_rate g h ≡ false
     → differ_in_rate h k ≡ false → differ_in_rate g k ≡ false
 rate_on g h k low high one two =
     elim (g.owner == k.owner)
     as (λ b. (g.owner == k.owner) ≡ b
-    → (b && not (bytes_eq (rate_text g.offer.rate) (rate_text k.offer.rate))) ≡ false) [
+    → (b && not (is_same_rate g.offer.rate k.offer.rate)) ≡ false) [
       | true ↦ λ e.
           let first : (g.owner == h.owner) ≡ true = grind (arith, nat_tests, e, low, high) in
           let second : (h.owner == k.owner) ≡ true = grind (arith, nat_tests, e, low, high) in
-          ap not (bytes_on (rate_text g.offer.rate) (rate_text h.offer.rate) (rate_text k.offer.rate)
-          (agrees (g.owner == h.owner) (bytes_eq (rate_text g.offer.rate) (rate_text h.offer.rate)) first one)
-          (agrees (h.owner == k.owner) (bytes_eq (rate_text h.offer.rate) (rate_text k.offer.rate)) second two))
+          ap not (same_rate_on g.offer.rate h.offer.rate k.offer.rate
+          (agrees (g.owner == h.owner) (is_same_rate g.offer.rate h.offer.rate) first one)
+          (agrees (h.owner == k.owner) (is_same_rate h.offer.rate k.offer.rate) second two))
       | false ↦ λ e. refl
     ] refl
 

@@ -9,9 +9,9 @@ use Rattle.std.proofs.lemmas.Bool.Decides.{nat_tests}
 use Rattle.std.proofs.lemmas.List.Folds.{list_any-append, list_all-append}
 use Rattle.std.proofs.lemmas.Slice.Eq.{bytes_eq-Decides}
 use Rattle.timecode.specs.declared.rates.Rate.{Rate}
-use Rattle.timecode.specs.declared.rates.Rate.TheVariants.{F24, F25, F30, Df30}
-use Rattle.timecode.specs.Rate.{rate_text}
+use Rattle.timecode.specs.Rate.{is_same_rate}
 use Rattle.timecode.specs.Counting.{day_length}
+use Rattle.timecode.proofs.RateLemmas.{rate_is, rate_same}
 use Rattle.umid.specs.BasicUmid.{UmidParts, basic_umid, parts_in}
 use Rattle.umid.proofs.UmidLemmas.{parts_in-basic_umid}
 use Rattle.channel_plan.specs.declared.plan.PlanRow.{PlanRow}
@@ -19,7 +19,7 @@ use Rattle.vault_core.specs.declared.clip.Clip.{Clip}
 use Rattle.vault_core.specs.declared.offer.Offer.{Offer}
 use Rattle.vault_core.specs.Own.{Own}
 use Rattle.vault_core.specs.Clip.{is_clip_range}
-use Rattle.vault_core.specs.Offer.{is_copy, copies, granted_umid, is_grantee}
+use Rattle.vault_core.specs.Offer.{is_copy, matches_clip, granted_umid, is_grantee}
 use Rattle.vault_core.specs.Rules.{is_clip, is_offer, is_numbered_from, are_apart, open_grants, is_same_grant}
 use Rattle.vault_core.specs.Rules.{KeepsOwnRules}
 use Rattle.grant_core.specs.declared.grant.Grant.{Grant}
@@ -79,25 +79,6 @@ found_one p q (u ∷ rs) r found all =
       | false ↦ λ e rest. found_one p q rs r rest parts.1
     ] refl found
 
--- rates of one text are one
-same_rate : (a b : Rate) → bytes_eq (rate_text a) (rate_text b) ≡ true → day_length a ≡ day_length b
-same_rate F24 F24 h = refl
-same_rate F24 F25 h = absurd (cc)
-same_rate F24 F30 h = absurd (cc)
-same_rate F24 Df30 h = absurd (cc)
-same_rate F25 F24 h = absurd (cc)
-same_rate F25 F25 h = refl
-same_rate F25 F30 h = absurd (cc)
-same_rate F25 Df30 h = absurd (cc)
-same_rate F30 F24 h = absurd (cc)
-same_rate F30 F25 h = absurd (cc)
-same_rate F30 F30 h = refl
-same_rate F30 Df30 h = absurd (cc)
-same_rate Df30 F24 h = absurd (cc)
-same_rate Df30 F25 h = absurd (cc)
-same_rate Df30 F30 h = absurd (cc)
-same_rate Df30 Df30 h = refl
-
 -- UMIDs of the same bytes have one instance number
 bytes_same : (xs ys : List ℕ) → bytes_eq xs ys ≡ true → xs ≡ ys
 bytes_same xs ys h = (bytes_eq-Decides xs ys).0 h
@@ -117,7 +98,7 @@ copied : (plan : PlanRow) (b c : ℕ) (o : Offer) (k : Clip) → is_copy plan o 
 unfolding is_copy
 copied plan b c o k copy to named number range =
     let umid : bytes_eq (basic_umid o.umid) (basic_umid (granted_umid k.umid o.grantee)) ≡ true = grind (arith, copy) in
-    let rate : bytes_eq (rate_text o.rate) (rate_text plan.rate) ≡ true = grind (arith, copy) in
+    let rate : is_same_rate o.rate plan.rate ≡ true = grind (arith, copy) in
     let first : (o.src_first == k.src_first) ≡ true = grind (arith, copy) in
     let frames : (o.frames == k.frames) ≡ true = grind (arith, copy) in
     let first_is : o.src_first ≡ k.src_first = grind (arith, nat_tests, first) in
@@ -126,7 +107,7 @@ copied plan b c o k copy to named number range =
     let grantee_is : o.grantee ≡ c = grind (arith, nat_tests, to) in
     let instance : o.umid.instance_number ≡ c =
     same_instance o.umid (granted_umid k.umid o.grantee) umid ∙ grantee_is in
-    let day : day_length o.rate ≡ day_length plan.rate = same_rate o.rate plan.rate rate in
+    let day : day_length o.rate ≡ day_length plan.rate = ap day_length (rate_is o.rate plan.rate rate) in
     let one : (nat_lt 0 o.clip && nat_le o.clip 20000) ≡ true =
     subst (λ n. (nat_lt 0 n && nat_le n 20000) ≡ true) clip_is number in
     let two : (o.umid.instance_number == c) ≡ true = grind (arith, nat_tests, instance) in
@@ -137,7 +118,7 @@ copied plan b c o k copy to named number range =
     grind (arith, one, two, three)
 
 of_found : (plan : PlanRow) (tapes b c : ℕ) (ks : List Clip) (o : Offer) (x : Option Clip)
-    → find (λ k. k.n == o.clip) ks ≡ x → copies plan o x ≡ true → (o.grantee == c) ≡ true
+    → find (λ k. k.n == o.clip) ks ≡ x → matches_clip plan o x ≡ true → (o.grantee == c) ≡ true
     → list_all (is_clip plan tapes) ks ≡ true → list_all (λ k. nat_lt 0 k.n && nat_le k.n 20000) ks ≡ true
     → is_clip_lent_to c (grant_by b o) ≡ true
 of_found plan tapes b c ks o None found copy to fields numbers = absurd (cc)
@@ -152,7 +133,7 @@ clip_of : (plan : PlanRow) (tapes b c : ℕ) (ks : List Clip) → list_all (is_c
     → list_all (λ k. nat_lt 0 k.n && nat_le k.n 20000) ks ≡ true
     → (o : Offer) → is_offer plan ks o ≡ true → (not (o.grantee == c) || is_clip_lent_to c (grant_by b o)) ≡ true
 clip_of plan tapes b c ks fields numbers o h =
-    let copy : copies plan o (find (λ k. k.n == o.clip) ks) ≡ true = grind (arith, h) in
+    let copy : matches_clip plan o (find (λ k. k.n == o.clip) ks) ≡ true = grind (arith, h) in
     elim (o.grantee == c) as (λ t. (o.grantee == c) ≡ t → (not t || is_clip_lent_to c (grant_by b o)) ≡ true) [
       | true ↦ λ to. of_found plan tapes b c ks o (find (λ k. k.n == o.clip) ks) refl copy to fields numbers
       | false ↦ λ to. refl
@@ -311,8 +292,8 @@ apart_by clash p none (g ∷ gs) all =
         ∙ none_behind hs these.1
 
 -- copies of one clip to one grantee are one copy, at the owner's rate
-copy_rate : (plan : PlanRow) (o : Offer) (x : Option Clip) → copies plan o x ≡ true
-    → bytes_eq (rate_text o.rate) (rate_text plan.rate) ≡ true
+copy_rate : (plan : PlanRow) (o : Offer) (x : Option Clip) → matches_clip plan o x ≡ true
+    → is_same_rate o.rate plan.rate ≡ true
 unfolding is_copy
 copy_rate plan o None h = absurd (cc)
 copy_rate plan o (Some k) h = grind (arith, h)
@@ -320,20 +301,26 @@ copy_rate plan o (Some k) h = grind (arith, h)
 bytes_one : (xs ys zs : List ℕ) → bytes_eq xs zs ≡ true → bytes_eq ys zs ≡ true → bytes_eq xs ys ≡ true
 bytes_one xs ys zs a b = (bytes_eq-Decides xs ys).1 (bytes_same xs zs a ∙ sym (bytes_same ys zs b))
 
+rate_one : (a b c : Rate) → is_same_rate a c ≡ true → is_same_rate b c ≡ true → is_same_rate a b ≡ true
+rate_one a b c first second =
+    subst (λ r. is_same_rate a r ≡ true) (rate_is a c first ∙ sym (rate_is b c second)) (rate_same a)
+
 number_one : (x y z : ℕ) → (x == z) ≡ true → (y == z) ≡ true → (x == y) ≡ true
 number_one x y z a b = grind (arith, nat_tests, a, b)
 
 -- what an offer to this grantee has of its clip
 abbrev copies_to : PlanRow → List Clip → ℕ → Grant → Bool
-copies_to plan ks c g = copies plan g.offer (find (λ k. k.n == g.offer.clip) ks) && g.offer.grantee == c
+copies_to plan ks c g = matches_clip plan g.offer (find (λ k. k.n == g.offer.clip) ks) && g.offer.grantee == c
 
 one_rate : (plan : PlanRow) (ks : List Clip) (c : ℕ) (g h : Grant) → copies_to plan ks c g ≡ true
     → copies_to plan ks c h ≡ true → differ_in_rate g h ≡ false
 one_rate plan ks c g h gs hs =
-    let g_parts = and_parts (copies plan g.offer (find (λ k. k.n == g.offer.clip) ks)) (g.offer.grantee == c) gs in
-    let h_parts = and_parts (copies plan h.offer (find (λ k. k.n == h.offer.clip) ks)) (h.offer.grantee == c) hs in
+    let g_parts =
+    and_parts (matches_clip plan g.offer (find (λ k. k.n == g.offer.clip) ks)) (g.offer.grantee == c) gs in
+    let h_parts =
+    and_parts (matches_clip plan h.offer (find (λ k. k.n == h.offer.clip) ks)) (h.offer.grantee == c) hs in
     let same =
-    bytes_one (rate_text g.offer.rate) (rate_text h.offer.rate) (rate_text plan.rate)
+    rate_one g.offer.rate h.offer.rate plan.rate
     (copy_rate plan g.offer _ g_parts.0) (copy_rate plan h.offer _ h_parts.0) in
     ap (λ b. g.owner == h.owner && not b) same ∙ and_false (g.owner == h.owner)
   where
@@ -372,8 +359,8 @@ of_one_clip o p k to a b =
     (number_one o.src_first p.src_first k.src_first a.first b.first)
     (number_one o.frames p.frames k.frames a.frames b.frames)
 
-same_copies : (plan : PlanRow) (o p : Offer) (x : Option Clip) → o.grantee ≡ p.grantee → copies plan o x ≡ true
-    → copies plan p x ≡ true → is_same_copy o p ≡ true
+same_copies : (plan : PlanRow) (o p : Offer) (x : Option Clip) → o.grantee ≡ p.grantee → matches_clip plan o x ≡ true
+    → matches_clip plan p x ≡ true → is_same_copy o p ≡ true
 same_copies plan o p None to a b = absurd (cc)
 same_copies plan o p (Some k) to a b =
     of_one_clip o p k p.grantee (subst (OfClip o k) to (of_clip plan o k a)) (of_clip plan p k b)
@@ -381,15 +368,17 @@ same_copies plan o p (Some k) to a b =
 one_copy : (plan : PlanRow) (ks : List Clip) (c : ℕ) (g h : Grant) → copies_to plan ks c g ≡ true
     → copies_to plan ks c h ≡ true → differ_as_copies g h ≡ false
 one_copy plan ks c g h gs hs =
-    let g_parts = and_parts (copies plan g.offer (find (λ k. k.n == g.offer.clip) ks)) (g.offer.grantee == c) gs in
-    let h_parts = and_parts (copies plan h.offer (find (λ k. k.n == h.offer.clip) ks)) (h.offer.grantee == c) hs in
+    let g_parts =
+    and_parts (matches_clip plan g.offer (find (λ k. k.n == g.offer.clip) ks)) (g.offer.grantee == c) gs in
+    let h_parts =
+    and_parts (matches_clip plan h.offer (find (λ k. k.n == h.offer.clip) ks)) (h.offer.grantee == c) hs in
     elim (g.offer.clip == h.offer.clip)
     as (λ b. (g.offer.clip == h.offer.clip) ≡ b
     → ((g.owner == h.owner && b) && not (is_same_copy g.offer h.offer)) ≡ false) [
       | true ↦ λ e.
           let clip : g.offer.clip ≡ h.offer.clip = grind (arith, nat_tests, e) in
           let to : g.offer.grantee ≡ h.offer.grantee = grind (arith, nat_tests, g_parts.1, h_parts.1) in
-          let of_h = subst (λ n. copies plan h.offer (find (λ k. k.n == n) ks) ≡ true) (sym clip) h_parts.0 in
+          let of_h = subst (λ n. matches_clip plan h.offer (find (λ k. k.n == n) ks) ≡ true) (sym clip) h_parts.0 in
           let same = same_copies plan g.offer h.offer (find (λ k. k.n == g.offer.clip) ks) to g_parts.0 of_h in
           ap (λ b. (g.owner == h.owner && true) && not b) same ∙ and_false (g.owner == h.owner && true)
       | false ↦ λ e. none (g.owner == h.owner) (not (is_same_copy g.offer h.offer))
@@ -406,9 +395,9 @@ one_copy plan ks c g h gs hs =
 copies_one : (plan : PlanRow) (c : ℕ) (ks : List Clip) (b : ℕ) (o : Offer) → is_offer plan ks o ≡ true
     → (not (o.grantee == c) || copies_to plan ks c (grant_by b o)) ≡ true
 copies_one plan c ks b o h =
-    let copy : copies plan o (find (λ k. k.n == o.clip) ks) ≡ true =
-    (and_parts (is_grantee plan o.grantee) (copies plan o (find (λ k. k.n == o.clip) ks)) h).1 in
-    elim (o.grantee == c) as (λ t. (not t || (copies plan o (find (λ k. k.n == o.clip) ks) && t)) ≡ true) [
+    let copy : matches_clip plan o (find (λ k. k.n == o.clip) ks) ≡ true =
+    (and_parts (is_grantee plan o.grantee) (matches_clip plan o (find (λ k. k.n == o.clip) ks)) h).1 in
+    elim (o.grantee == c) as (λ t. (not t || (matches_clip plan o (find (λ k. k.n == o.clip) ks) && t)) ≡ true) [
       | true ↦ ap (λ r. r && true) copy
       | false ↦ refl
     ]
@@ -492,7 +481,7 @@ others_not_same : (g h : Grant) → (g.owner == h.owner) ≡ false → lend_the_
 others_not_same g h other = grind (arith, other)
 
 others_any_rate : (g h : Grant) → (g.owner == h.owner) ≡ false → differ_in_rate g h ≡ false
-others_any_rate g h other = ap (λ b. b && not (bytes_eq (rate_text g.offer.rate) (rate_text h.offer.rate))) other
+others_any_rate g h other = ap (λ b. b && not (is_same_rate g.offer.rate h.offer.rate)) other
 
 others_any_copy : (g h : Grant) → (g.owner == h.owner) ≡ false → differ_as_copies g h ≡ false
 others_any_copy g h other = ap (λ b. (b && g.offer.clip == h.offer.clip) && not (is_same_copy g.offer h.offer)) other

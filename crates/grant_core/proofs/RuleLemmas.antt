@@ -7,7 +7,7 @@ use Rattle.std.specs.List.{list_any, cons_option}
 use Rattle.std.proofs.lemmas.Bool.Decides.{nat_tests}
 use Rattle.std.proofs.lemmas.List.{length-append}
 use Rattle.std.proofs.lemmas.List.Folds.{list_all-append}
-use Rattle.timecode.specs.Rate.{rate_text}
+use Rattle.timecode.proofs.RateLemmas.{rate_same}
 use Rattle.umid.specs.BasicUmid.{basic_umid}
 use Rattle.channel_plan.specs.declared.plan.PlanRow.{PlanRow}
 use Rattle.channel_plan.specs.declared.refusal.Code.{Code}
@@ -17,7 +17,7 @@ use Rattle.vault_core.specs.declared.clip.Clip.{Clip}
 use Rattle.vault_core.specs.declared.offer.Offer.{Offer}
 use Rattle.vault_core.specs.Own.{Own, own_seen, with_offer}
 use Rattle.vault_core.specs.Window.{Window}
-use Rattle.vault_core.specs.Offer.{granted_copy, granted_umid, is_copy, copies, is_grantee, is_open_to}
+use Rattle.vault_core.specs.Offer.{granted_copy, granted_umid, is_copy, matches_clip, is_grantee, is_open_to}
 use Rattle.vault_core.specs.Rules.{is_offer, open_grants, is_same_grant, KeepsOwnRules}
 use Rattle.vault_core.proofs.RuleLemmas.{numbered-push, apart-push}
 use Rattle.grant_core.specs.declared.clip_ref.ClipRef.{ClipRef}
@@ -69,7 +69,7 @@ copy_of plan n to w k =
       arith,
       bytes_same k.title,
       bytes_same (basic_umid (granted_umid k.umid to)),
-      bytes_same (rate_text plan.rate),
+      rate_same plan.rate,
       number_same k.src_first,
       number_same k.frames,
     )
@@ -132,8 +132,8 @@ keeps own n to w o p rules =
     let named : p.clip.n ≡ n = found_number n own.clips p.clip p.found in
     let there : find (λ k. k.n == made.clip) own.clips ≡ Some p.clip =
     subst (λ m. find (λ k. k.n == m) own.clips ≡ Some p.clip) (sym named) p.found in
-    let copied : copies own.plan made (find (λ k. k.n == made.clip) own.clips) ≡ true =
-    ap (copies own.plan made) there ∙ copy_of own.plan (length own.offers + 1) to w p.clip in
+    let copied : matches_clip own.plan made (find (λ k. k.n == made.clip) own.clips) ≡ true =
+    ap (matches_clip own.plan made) there ∙ copy_of own.plan (length own.offers + 1) to w p.clip in
     let grantee : is_grantee own.plan to ≡ true = p.grantee in
     let one : is_offer own.plan own.clips made ≡ true = grind (arith, grantee, copied) in
     let room : nat_le 9999 (length own.offers) ≡ false = p.room in

@@ -1,9 +1,11 @@
 -- Lent clips: the offers to one channel, each with its owner.
-use Rattle.std.specs.Prelude.{◌≡◌, ℕ, ◌+◌, ◌-◌, List, [], ◌∷◌, ◌++◌, Bool, true, not, ◌&&◌, ◌||◌, ◌==◌, nat_lt, nat_le}
-use Rattle.std.specs.Prelude.{map, filter, length, replicate, decimal, bytes_eq, Option, Some, None, if◌then◌else◌}
+use Rattle.std.specs.Prelude.{◌≡◌, ℕ, ◌+◌, List, [], ◌∷◌, ◌++◌, Bool, true, not, ◌&&◌, ◌||◌, ◌==◌, nat_lt, nat_le}
+use Rattle.std.specs.Prelude.{map, filter, bytes_eq, Option, Some, None, if◌then◌else◌}
 use Rattle.std.specs.List.{list_all}
 use Rattle.timecode.specs.Counting.{day_length}
-use Rattle.timecode.specs.Rate.{rate_text}
+use Rattle.timecode.specs.Decimal.{in_digits}
+use Rattle.timecode.specs.Letters.{letter_L}
+use Rattle.timecode.specs.Rate.{is_same_rate}
 use Rattle.umid.specs.BasicUmid.{basic_umid}
 use Rattle.channel_plan.specs.Limits.{last_channel}
 use Rattle.vault_core.specs.Limits.{most_clips, most_offers}
@@ -57,7 +59,7 @@ lend_the_same g h = not g.offer.withdrawn && not h.offer.withdrawn
 
 -- both are of one owner, at different rates
 abbrev pub differ_in_rate : Grant → Grant → Bool
-differ_in_rate g h = g.owner == h.owner && not (bytes_eq (rate_text g.offer.rate) (rate_text h.offer.rate))
+differ_in_rate g h = g.owner == h.owner && not (is_same_rate g.offer.rate h.offer.rate)
 
 -- one copy: of the same title, UMID, first frame and length; their windows and states may differ
 unfoldable pub is_same_copy : Offer → Offer → Bool
@@ -90,8 +92,6 @@ lent_by own channel = map (grant_by own.plan.ch) (filter (λ o. o.grantee == cha
 abbrev pub owners_before : List Grant → List Grant → Bool
 owners_before gs hs = list_all (λ g. list_all (λ h. nat_lt g.owner h.owner) hs) gs
 
--- the reel of a lent clip: `L` (76), its owner in 3 digits and the offer's number in 4
+-- the reel of a lent clip: `L`, its owner in 3 digits and the offer's number in 4
 abbrev pub lent_reel : ℕ → ℕ → List ℕ
-lent_reel owner n = 76
-    ∷ (replicate (3 - length (decimal owner)) 48
-    ++ (decimal owner ++ (replicate (4 - length (decimal n)) 48 ++ decimal n)))
+lent_reel owner n = letter_L ∷ (in_digits 3 owner ++ in_digits 4 n)

@@ -261,8 +261,7 @@ fn have_one_rate(grants: &[Grant]) -> bool
 fn differ_in_rate(grant: &Grant, other: &Grant) -> bool
     ensures { result ≡ differ_in_rate_of grant.now other.now }
 {
-    grant.owner == other.owner
-        && grant.offer.rate.text().as_bytes() != other.offer.rate.text().as_bytes()
+    grant.owner == other.owner && grant.offer.rate != other.offer.rate
 }
 
 // Whether no two grants, of clips below N, are of one clip of an owner and differ in what a copy has.

@@ -13,7 +13,7 @@ use Rattle.channel_view_model.specs.Solo.{solo_reply, solo_after, replies_to, so
 use Rattle.channel_view.specs.Requests.{stop_after}
 use Rattle.channel_view.specs.Runs.{in_doubt_after, MayRemain}
 use Rattle.channel_view.specs.Parts.{rows_part, requests_part, IsClosed, IsClosedPart}
-use Rattle.channel_view_decisions.proofs.RunLemmas.{alone_law, purge_law}
+use Rattle.channel_view_rules.proofs.RunLemmas.{alone_law, purge_law}
 use Rattle.channel_view_model.proofs.StepLemmas.{reply_is}
 use Rattle.channel_view_model.proofs.ViewLemmas.{view_of-after_own}
 use Rattle.channel_view.proofs.ServedLemmas.{remains_one}

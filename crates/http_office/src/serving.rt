@@ -63,15 +63,15 @@ enum Turn {
 // Makes one read, and puts what came behind what is pending.
 fn read_more<R: Read>(
     input: &mut R,
-    room: &mut [u8],
+    buffer: &mut [u8],
     pending: &mut Vec<u8>,
 ) -> Result<ReadOutcome, ServeFault>
-    requires { 0 < length room.old }
+    requires { 0 < length buffer.old }
     ensures { ReadsMore (R.remaining input.old) (R.remaining input.new) pending.old.items pending.new.items result }
 {
-    match input.read(room) {
+    match input.read(buffer) {
         Ok(0) => Ok(ReadOutcome::End),
-        Ok(count) => match pending.extend_from_slice(&room[..count]) {
+        Ok(count) => match pending.extend_from_slice(&buffer[..count]) {
             Ok(()) => Ok(ReadOutcome::More),
             Err(_) => Err(ServeFault::Memory),
         },
@@ -172,19 +172,19 @@ fn answer_whole<S: RowStore, W: Write>(
 fn serve_with<S: RowStore, R: Read, W: Write>(
     alloc: Global,
     routes: &Routes,
-    room: &mut [u8],
+    buffer: &mut [u8],
     store: &mut S,
     input: &mut R,
     output: &mut W,
 ) -> Result<End, ServeFault>
-    requires { 0 < length room.old }
+    requires { 0 < length buffer.old }
     ensures { Serves S.is_clean S.stands_for S.may_leave S.leaves_sets store.old store.new (R.remaining input.old)
         (R.remaining input.new) (W.contents output.old) (W.contents output.new) result }
 {
     let mut pending = Vec::new(alloc);
     let mut seen = FramingProgress::NOTHING;
     for _ in 0..MAX_READS {
-        match read_more(input, room, &mut pending)? {
+        match read_more(input, buffer, &mut pending)? {
             ReadOutcome::More => {}
             ReadOutcome::End if pending.is_empty() => return Ok(End::Closed),
             ReadOutcome::End => return Ok(End::CutShort),
@@ -218,8 +218,8 @@ pub fn serve<S: RowStore, R: Read, W: Write>(
     let Ok(routes) = Routes::new(alloc) else {
         return Err(ServeFault::Memory);
     };
-    let Ok(mut room) = vec![in alloc; 0; READ_SIZE] else {
+    let Ok(mut buffer) = vec![in alloc; 0; READ_SIZE] else {
         return Err(ServeFault::Memory);
     };
-    serve_with(alloc, &routes, &mut room, store, input, output)
+    serve_with(alloc, &routes, &mut buffer, store, input, output)
 }

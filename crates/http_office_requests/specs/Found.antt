@@ -1,39 +1,32 @@
 -- What the code makes of a message.
-use Rattle.std.specs.Prelude.{◌≡◌, ℕ, List, true, Option, Some, None, take}
+use Rattle.std.specs.Prelude.{◌≡◌, ℕ, List, true, Option, Some, None, Result, Ok, Err, take}
 use Rattle.std.specs.Bool.{⊤}
 use Rattle.std.specs.List.{list_all}
 use Rattle.std.specs.Char.{is_ascii}
 use Rattle.matchit.specs.Rows.{RowsOf}
 use Rattle.matchit.specs.Router.{RouteOf, rename}
 use Rattle.http_office_requests.specs.declared.routes.Route.{Route}
-use Rattle.channel_view_model.specs.declared.command.Command.{Command}
-use Rattle.serde_json.specs.Data.{Data}
 use Rattle.http_office_requests.specs.Request.{Asked, refused, command}
-use Rattle.http_office_requests.specs.Request.{add_tape_of, shelve_of, add_clip_of, offer_of, open_day_of, add_item_of}
-use Rattle.http_office_requests.specs.Request.{revise_of}
 use Rattle.http_office_requests.specs.Piece.{Piece, IsPiece}
 use Rattle.http_office_requests.specs.declared.piece.FoundPiece.{FoundPiece}
 use Rattle.http_office_requests.specs.declared.piece.FoundPiece.TheVariants.{Partial, Message, Last}
 use Rattle.http_office_requests.specs.FoundPiece.{status_of}
 use Rattle.http_office_requests.specs.declared.request.ParsedRequest.{ParsedRequest}
 use Rattle.http_office_requests.specs.declared.request.ParsedRequest.TheVariants as found
-use Rattle.http_office_requests.specs.declared.body.Form.{Form}
-use Rattle.http_office_requests.specs.declared.body.Form.TheVariants.{Tape, Shelf, Clip, Offer, Day, Item, Revision}
+use Rattle.http_office_requests.specs.declared.fault.AskFault.{AskFault}
+use Rattle.http_office_requests.specs.declared.fault.AskFault.TheVariants as faults
 
 -- what the code found that a message asks
 abbrev pub IsAsked : Asked → ParsedRequest → Type 0
 IsAsked a (found.Refused status) = a ≡ refused (status_of status)
 IsAsked a (found.Command ch c) = a ≡ command ch c
 
--- the command of a body of this form
-abbrev pub command_of : Form → Data → Option Command
-command_of Tape d = add_tape_of d
-command_of (Shelf tape) d = shelve_of tape d
-command_of Clip d = add_clip_of d
-command_of Offer d = offer_of d
-command_of Day d = open_day_of d
-command_of (Item day) d = add_item_of day d
-command_of (Revision day) d = revise_of day d
+-- what the code found in a path or a body, or the answer's status; where memory ran out nothing is said
+abbrev pub Finds : {X : Type 0} → Result X ℕ → Result X AskFault → Type 0
+Finds wanted (Ok x) = wanted ≡ Ok x
+Finds wanted (Err faults.NotFound) = wanted ≡ Err 404
+Finds wanted (Err faults.BadBody) = wanted ≡ Err 400
+Finds wanted (Err faults.Unavailable) = ⊤
 
 -- the texts of the routes are ASCII
 abbrev pub HasPlainTexts : RowsOf (RouteOf Route) → Type 0

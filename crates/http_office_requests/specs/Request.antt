@@ -1,6 +1,6 @@
 -- Part of the promise: what a message asks: a command of a channel, or an answer that is its own and no channel's.
 use Rattle.std.specs.Prelude.{ℕ, true, false, ◌^◌, ◌+◌, List, [], ◌∷◌, if◌then◌else◌, ◌==◌, nat_lt, nat_le}
-use Rattle.std.specs.Prelude.{Option, Some, None, Result, Ok, Err, option_map, option_and_then, codes, bytes_eq}
+use Rattle.std.specs.Prelude.{Option, Some, None, Result, Ok, Err, option_map, option_and_then, ok_or, codes, bytes_eq}
 use Rattle.std.specs.Option.{option_map_or}
 use Rattle.std.specs.List.{list_all}
 use Rattle.std.specs.Char.{is_ascii}
@@ -26,7 +26,7 @@ use Rattle.channel_view_model.specs.declared.day_command.DayCommand.TheVariants 
 use Rattle.channel_view_model.specs.declared.command.AiringCommand.TheVariants as airings
 use Rattle.channel_view_model.specs.Days.{day_number, mix_frames}
 use Rattle.channel_view_model.specs.declared.revision.SaidItem.{SaidItem}
-use Rattle.channel_view_model.specs.Revision.{SaidRevision, revision_said}
+use Rattle.channel_view_model.specs.Revision.{revision_said}
 use Rattle.channel_view_model.specs.declared.command.VaultCommand.TheVariants.{Tape as OnTapes, Clip as OnClips}
 use Rattle.channel_view_model.specs.declared.command.VaultCommand.TheVariants.{Offer as OnOffers}
 use Rattle.vault_core.specs.declared.command.TapeCommand.TheVariants as tapes
@@ -35,14 +35,7 @@ use Rattle.grant_core.specs.declared.command.OfferCommand.TheVariants as offers
 use Rattle.channel_view_model.specs.declared.table.Table.TheVariants as tables
 use Rattle.http_office_requests.specs.declared.routes.PathNumbers.{PathNumbers}
 use Rattle.http_office_requests.specs.declared.routes.Route.{Route}
-use Rattle.http_office_requests.specs.declared.routes.Route.TheVariants.{Tapes, PullTape, ShelveTape, Clips}
-use Rattle.http_office_requests.specs.declared.routes.Route.TheVariants.{RetireClip}
-use Rattle.http_office_requests.specs.declared.routes.Route.TheVariants.{Offers, WithdrawOffer, Days, Day, Channel}
-use Rattle.http_office_requests.specs.declared.routes.Route.TheVariants.{Table}
-use Rattle.http_office_requests.specs.declared.routes.DayRoute.{DayRoute}
-use Rattle.http_office_requests.specs.declared.routes.DayRoute.TheVariants.{Items, RemoveItem, Revise, ImportStrict}
-use Rattle.http_office_requests.specs.declared.routes.DayRoute.TheVariants.{ImportIgnoring, Seal, TakeBatch, Plan}
-use Rattle.http_office_requests.specs.declared.routes.DayRoute.TheVariants.{List as EditList, Match}
+use Rattle.http_office_requests.specs.declared.routes.Route.TheVariants as routes
 
 pub data Asked : Type 0 where
   -- the status of the answer
@@ -60,39 +53,39 @@ with_route (Err e) value rows = rows
 -- the same after these, one after another
 abbrev pub with_routes : List (List ℕ × Route) → RowsOf (RouteOf Route) → RowsOf (RouteOf Route)
 with_routes [] rows = rows
-with_routes (route ∷ routes) rows = with_routes routes (with_route (parse_route route.0) route.1 rows)
+with_routes (route ∷ more) rows = with_routes more (with_route (parse_route route.0) route.1 rows)
 
--- the routes of the method POST, and those of GET
+-- the paths of the method POST, and those of GET, each with what it asks, which `command_of` says
 abbrev pub post_routes : List (List ℕ × Route)
 post_routes =
-    (codes "/ch/{ch}/tapes", Tapes)
-    ∷ (codes "/ch/{ch}/tapes/{n}/pull", PullTape)
-    ∷ (codes "/ch/{ch}/tapes/{n}/shelve", ShelveTape)
-    ∷ (codes "/ch/{ch}/clips", Clips)
-    ∷ (codes "/ch/{ch}/clips/{n}/retire", RetireClip)
-    ∷ (codes "/ch/{ch}/offers", Offers)
-    ∷ (codes "/ch/{ch}/offers/{n}/withdraw", WithdrawOffer)
-    ∷ (codes "/ch/{ch}/days", Days)
-    ∷ (codes "/ch/{ch}/days/{day}/items", Day Items)
-    ∷ (codes "/ch/{ch}/days/{day}/items/{n}/remove", Day RemoveItem)
-    ∷ (codes "/ch/{ch}/days/{day}/revise", Day Revise)
-    ∷ (codes "/ch/{ch}/days/{day}/import/strict", Day ImportStrict)
-    ∷ (codes "/ch/{ch}/days/{day}/import/ignore", Day ImportIgnoring)
-    ∷ (codes "/ch/{ch}/days/{day}/seal", Day Seal)
-    ∷ (codes "/ch/{ch}/days/{day}/asrun/{n}", Day TakeBatch)
+    (codes "/ch/{ch}/tapes", routes.AddTape)
+    ∷ (codes "/ch/{ch}/tapes/{n}/pull", routes.PullTape)
+    ∷ (codes "/ch/{ch}/tapes/{n}/shelve", routes.ShelveTape)
+    ∷ (codes "/ch/{ch}/clips", routes.AddClip)
+    ∷ (codes "/ch/{ch}/clips/{n}/retire", routes.RetireClip)
+    ∷ (codes "/ch/{ch}/offers", routes.MakeOffer)
+    ∷ (codes "/ch/{ch}/offers/{n}/withdraw", routes.WithdrawOffer)
+    ∷ (codes "/ch/{ch}/days", routes.OpenDay)
+    ∷ (codes "/ch/{ch}/days/{day}/items", routes.AddItem)
+    ∷ (codes "/ch/{ch}/days/{day}/items/{n}/remove", routes.RemoveItem)
+    ∷ (codes "/ch/{ch}/days/{day}/revise", routes.Revise)
+    ∷ (codes "/ch/{ch}/days/{day}/import/strict", routes.ImportStrict)
+    ∷ (codes "/ch/{ch}/days/{day}/import/ignore", routes.ImportIgnoring)
+    ∷ (codes "/ch/{ch}/days/{day}/seal", routes.Seal)
+    ∷ (codes "/ch/{ch}/days/{day}/asrun/{n}", routes.TakeBatch)
     ∷ []
 
 abbrev pub get_routes : List (List ℕ × Route)
 get_routes =
-    (codes "/ch/{ch}", Channel)
-    ∷ (codes "/ch/{ch}/tapes", Table tables.Vault)
-    ∷ (codes "/ch/{ch}/clips", Table tables.Clips)
-    ∷ (codes "/ch/{ch}/offers", Table tables.Offers)
-    ∷ (codes "/ch/{ch}/lent", Table tables.Lent)
-    ∷ (codes "/ch/{ch}/days", Table tables.Days)
-    ∷ (codes "/ch/{ch}/days/{day}", Day Plan)
-    ∷ (codes "/ch/{ch}/days/{day}/list", Day EditList)
-    ∷ (codes "/ch/{ch}/days/{day}/match", Day Match)
+    (codes "/ch/{ch}", routes.PlanRow)
+    ∷ (codes "/ch/{ch}/tapes", routes.WriteTable tables.Vault)
+    ∷ (codes "/ch/{ch}/clips", routes.WriteTable tables.Clips)
+    ∷ (codes "/ch/{ch}/offers", routes.WriteTable tables.Offers)
+    ∷ (codes "/ch/{ch}/lent", routes.WriteTable tables.Lent)
+    ∷ (codes "/ch/{ch}/days", routes.WriteTable tables.Days)
+    ∷ (codes "/ch/{ch}/days/{day}", routes.WritePlan)
+    ∷ (codes "/ch/{ch}/days/{day}/list", routes.ExportList)
+    ∷ (codes "/ch/{ch}/days/{day}/match", routes.WriteMatch)
     ∷ []
 
 -- the routes as they lie in a router
@@ -258,51 +251,58 @@ revise_of day d =
     (list_at number_of (codes "remove") d)
     else None
 
--- ---- the whole message
+-- ---- the commands
 
--- a number that the path needs
-abbrev pub with_number : Option ℕ → (ℕ → Asked) → Asked
-with_number None f = refused 404
+-- what needs a number of the path, or the status of the answer where the path has none
+abbrev pub with_number : Option ℕ → (ℕ → Result Command ℕ) → Result Command ℕ
+with_number None f = Err 404
 with_number (Some n) f = f n
 
-abbrev pub asked_by : ℕ → Option Command → Asked
-asked_by ch None = refused 400
-asked_by ch (Some c) = command ch c
+abbrev pub with_row : PathNumbers → (ℕ → Result Command ℕ) → Result Command ℕ
+with_row path f = with_number path.row f
 
--- what a path of a day asks
-abbrev pub asked_of_day : DayRoute → ℕ → ℕ → Option ℕ → List ℕ → Asked
-asked_of_day Items ch day row content = asked_by ch (option_and_then (add_item_of day) (json_of content))
-asked_of_day RemoveItem ch day row content = with_number row (λ n. command ch (OnDay day (days.RemoveItem n)))
-asked_of_day Revise ch day row content = asked_by ch (option_and_then (revise_of day) (json_of content))
-asked_of_day ImportStrict ch day row content = command ch (OnDay day (days.Import content false))
-asked_of_day ImportIgnoring ch day row content = command ch (OnDay day (days.Import content true))
-asked_of_day Seal ch day row content = command ch (OnDay day days.Seal)
-asked_of_day Plan ch day row content = command ch (OnDay day days.WritePlan)
-asked_of_day EditList ch day row content = command ch (OnDay day days.ExportList)
-asked_of_day TakeBatch ch day row content =
-    with_number row (λ n. command ch (OnAiring day (airings.TakeBatch n content)))
-asked_of_day Match ch day row content = command ch (OnAiring day airings.WriteMatch)
+abbrev pub with_day : PathNumbers → (ℕ → Result Command ℕ) → Result Command ℕ
+with_day path f = with_number (option_and_then day_number path.day) f
 
--- The route says which numbers its path has, and what becomes of the body. The numbers come before the body.
-abbrev pub asked_of_channel : Route → ℕ → Option ℕ → Option ℕ → List ℕ → Asked
-asked_of_channel Tapes ch day row content = asked_by ch (option_and_then add_tape_of (json_of content))
-asked_of_channel PullTape ch day row content = with_number row (λ n. command ch (Vault (OnTapes (tapes.Pull n))))
-asked_of_channel ShelveTape ch day row content =
-    with_number row (λ n. asked_by ch (option_and_then (shelve_of n) (json_of content)))
-asked_of_channel Clips ch day row content = asked_by ch (option_and_then add_clip_of (json_of content))
-asked_of_channel RetireClip ch day row content = with_number row (λ n. command ch (Vault (OnClips (clips.Retire n))))
-asked_of_channel Offers ch day row content = asked_by ch (option_and_then offer_of (json_of content))
-asked_of_channel WithdrawOffer ch day row content =
-    with_number row (λ n. command ch (Vault (OnOffers (offers.Withdraw n))))
-asked_of_channel Days ch day row content = asked_by ch (option_and_then open_day_of (json_of content))
-asked_of_channel (Day route) ch day row content =
-    with_number (option_and_then day_number day) (λ d. asked_of_day route ch d row content)
-asked_of_channel Channel ch day row content = command ch PlanRow
-asked_of_channel (Table table) ch day row content = command ch (WriteTable table)
+-- the command of a JSON body
+abbrev pub in_body : (Data → Option Command) → List ℕ → Result Command ℕ
+in_body members content = ok_or (option_and_then members (json_of content)) 400
+
+-- What each route asks, by the numbers in its path and by its body. The numbers come before the body.
+abbrev pub command_of : Route → PathNumbers → List ℕ → Result Command ℕ
+command_of routes.AddTape path body = in_body add_tape_of body
+command_of routes.PullTape path body = with_row path (λ tape. Ok (Vault (OnTapes (tapes.Pull tape))))
+command_of routes.ShelveTape path body = with_row path (λ tape. in_body (shelve_of tape) body)
+command_of routes.AddClip path body = in_body add_clip_of body
+command_of routes.RetireClip path body = with_row path (λ clip. Ok (Vault (OnClips (clips.Retire clip))))
+command_of routes.MakeOffer path body = in_body offer_of body
+command_of routes.WithdrawOffer path body = with_row path (λ offer. Ok (Vault (OnOffers (offers.Withdraw offer))))
+command_of routes.OpenDay path body = in_body open_day_of body
+command_of routes.AddItem path body = with_day path (λ day. in_body (add_item_of day) body)
+command_of routes.RemoveItem path body =
+    with_day path (λ day. with_row path (λ item. Ok (OnDay day (days.RemoveItem item))))
+command_of routes.Revise path body = with_day path (λ day. in_body (revise_of day) body)
+command_of routes.ImportStrict path body = with_day path (λ day. Ok (OnDay day (days.Import body false)))
+command_of routes.ImportIgnoring path body = with_day path (λ day. Ok (OnDay day (days.Import body true)))
+command_of routes.Seal path body = with_day path (λ day. Ok (OnDay day days.Seal))
+command_of routes.TakeBatch path body =
+    with_day path (λ day. with_row path (λ n. Ok (OnAiring day (airings.TakeBatch n body))))
+command_of routes.PlanRow path body = Ok PlanRow
+command_of (routes.WriteTable table) path body = Ok (WriteTable table)
+command_of routes.WritePlan path body = with_day path (λ day. Ok (OnDay day days.WritePlan))
+command_of routes.ExportList path body = with_day path (λ day. Ok (OnDay day days.ExportList))
+command_of routes.WriteMatch path body = with_day path (λ day. Ok (OnAiring day airings.WriteMatch))
+
+-- ---- the whole message
+
+-- The number of the channel comes before all else.
+abbrev pub asked_by : Option ℕ → Result Command ℕ → Asked
+asked_by None found = refused 404
+asked_by (Some ch) (Ok c) = command ch c
+asked_by (Some ch) (Err status) = refused status
 
 abbrev pub asked_of : Route → PathNumbers → List ℕ → Asked
-asked_of route numbers content =
-    with_number numbers.channel (λ ch. asked_of_channel route ch numbers.day numbers.row content)
+asked_of route path content = asked_by path.channel (command_of route path content)
 
 abbrev pub asked_at : Option (Route × PathNumbers) → List ℕ → Asked
 asked_at None content = refused 404

@@ -1,12 +1,15 @@
 //! What a message asks, by its method, its path and its body.
-ghost use Rattle.std.specs.Prelude.{◌≡◌, IfOk, Some, option_and_then};
-ghost use Rattle.http_office_requests.specs.Request.{asked, asked_in, asked_of, asked_of_day, asked_by, json_of};
-ghost use Rattle.http_office_requests.specs.Found.{IsAsked, HasPlainTexts, command_of};
+ghost use Rattle.std.specs.Prelude.{◌≡◌, IfOk};
+ghost use Rattle.http_office_requests.specs.Request.{asked, asked_in, asked_of, command_of};
+ghost use Rattle.http_office_requests.specs.Found.{Finds, IsAsked, HasPlainTexts};
 
-use crate::body::{Form, on_clips, on_offers, on_tapes, read_command};
+use crate::body::{add_clip, add_tape, make_offer, on_clips, on_offers, on_tapes, shelve};
+use crate::day_body::{add_item, import, open_day, take_batch};
+use crate::fault::AskFault;
 use crate::piece::HttpError;
-use crate::routes::{DayRoute, PathNumbers, Route, Routes, day_in_path, is_plain, look_up};
-use channel_view_model::{AiringCommand, Command, DayCommand, DayNumber, Upload};
+use crate::revision_body::revise;
+use crate::routes::{PathNumbers, Route, Routes, is_plain, look_up};
+use channel_view_model::{AiringCommand, Command, DayCommand};
 use grant_core::OfferCommand;
 use matchit::Router;
 use std::alloc::Global;
@@ -23,86 +26,50 @@ pub enum ParsedRequest {
     Command(u16, Command),
 }
 
-// What a JSON body asks.
-fn ask_in_body(
+// The command that a route asks, by the numbers in its path and by its body. The numbers come before the body.
+fn command_of(
     alloc: Global,
-    channel: u16,
-    form: Form,
-    content: &[u8],
-) -> Result<ParsedRequest, Unavailable>
-    ensures { IfOk result
-        (IsAsked (asked_by channel (option_and_then (command_of form) (json_of content.now)))) }
+    route: Route,
+    path: PathNumbers,
+    body: &[u8],
+) -> Result<Command, AskFault>
+    ensures { Finds (command_of route path body.now) result }
 {
-    match read_command(alloc, form, content)? {
-        Some(command) => Ok(ParsedRequest::Command(channel, command)),
-        None => Ok(ParsedRequest::Refused(HttpError::BadMessage)),
+    match route {
+        Route::AddTape => add_tape(alloc, body),
+        Route::PullTape => Ok(on_tapes(TapeCommand::Pull {
+            tape: path.needed_row()?,
+        })),
+        Route::ShelveTape => shelve(alloc, path.needed_row()?, body),
+        Route::AddClip => add_clip(alloc, body),
+        Route::RetireClip => Ok(on_clips(ClipCommand::Retire {
+            clip: path.needed_row()?,
+        })),
+        Route::MakeOffer => make_offer(alloc, body),
+        Route::WithdrawOffer => Ok(on_offers(OfferCommand::Withdraw {
+            offer: path.needed_row()?,
+        })),
+        Route::OpenDay => open_day(alloc, body),
+        Route::AddItem => add_item(alloc, path.needed_day()?, body),
+        Route::RemoveItem => {
+            let day = path.needed_day()?;
+            let item = path.needed_row()?;
+            Ok(Command::Day(day, DayCommand::RemoveItem { item }))
+        }
+        Route::Revise => revise(alloc, path.needed_day()?, body),
+        Route::ImportStrict => import(alloc, path.needed_day()?, body, false),
+        Route::ImportIgnoring => import(alloc, path.needed_day()?, body, true),
+        Route::Seal => Ok(Command::Day(path.needed_day()?, DayCommand::Seal)),
+        Route::TakeBatch => take_batch(alloc, path.needed_day()?, path.needed_row()?, body),
+        Route::PlanRow => Ok(Command::PlanRow),
+        Route::WriteTable(table) => Ok(Command::Table(table)),
+        Route::WritePlan => Ok(Command::Day(path.needed_day()?, DayCommand::WritePlan)),
+        Route::ExportList => Ok(Command::Day(path.needed_day()?, DayCommand::ExportList)),
+        Route::WriteMatch => Ok(Command::Airing(path.needed_day()?, AiringCommand::WriteMatch)),
     }
 }
 
-// The bytes of a body, as a command holds them.
-fn handed(alloc: Global, content: &[u8]) -> Result<Upload, Unavailable>
-    ensures { IfOk result (λ bytes. bytes ≡ content.now) }
-{
-    match Upload::new(Vec::from_slice(alloc, content)?) {
-        Some(bytes) => Ok(bytes),
-        // No message has so many bytes.
-        None => Err(Unavailable),
-    }
-}
-
-// What a path of a day asks.
-fn ask_of_day(
-    alloc: Global,
-    route: DayRoute,
-    channel: u16,
-    day: DayNumber,
-    row: Option<u32>,
-    content: &[u8],
-) -> Result<ParsedRequest, Unavailable>
-    ensures { IfOk result (IsAsked (asked_of_day route channel day row content.now)) }
-{
-    let command = match (route, row) {
-        (DayRoute::Items, _) => return ask_in_body(alloc, channel, Form::Item(day), content),
-        (DayRoute::Revise, _) => return ask_in_body(alloc, channel, Form::Revision(day), content),
-        (DayRoute::RemoveItem, Some(item)) => Command::Day(day, DayCommand::RemoveItem { item }),
-        (DayRoute::ImportStrict, _) => {
-            let list = handed(alloc, content)?;
-            let ignore_timecode_mismatch = false;
-            Command::Day(
-                day,
-                DayCommand::Import {
-                    list,
-                    ignore_timecode_mismatch,
-                },
-            )
-        }
-        (DayRoute::ImportIgnoring, _) => {
-            let list = handed(alloc, content)?;
-            let ignore_timecode_mismatch = true;
-            Command::Day(
-                day,
-                DayCommand::Import {
-                    list,
-                    ignore_timecode_mismatch,
-                },
-            )
-        }
-        (DayRoute::Seal, _) => Command::Day(day, DayCommand::Seal),
-        (DayRoute::TakeBatch, Some(number)) => {
-            let rows = handed(alloc, content)?;
-            Command::Airing(day, AiringCommand::TakeBatch { number, rows })
-        }
-        (DayRoute::Plan, _) => Command::Day(day, DayCommand::WritePlan),
-        (DayRoute::List, _) => Command::Day(day, DayCommand::ExportList),
-        (DayRoute::Match, _) => Command::Airing(day, AiringCommand::WriteMatch),
-        (DayRoute::RemoveItem | DayRoute::TakeBatch, None) => {
-            return Ok(ParsedRequest::Refused(HttpError::NotFound));
-        }
-    };
-    Ok(ParsedRequest::Command(channel, command))
-}
-
-// What a path of a route asks: its numbers come before its body.
+// What a path of a route asks: the number of the channel comes before all else.
 fn ask(
     alloc: Global,
     route: Route,
@@ -114,30 +81,12 @@ fn ask(
     let Some(channel) = numbers.channel else {
         return Ok(ParsedRequest::Refused(HttpError::NotFound));
     };
-    let command = match (route, numbers.row) {
-        (Route::Tapes, _) => return ask_in_body(alloc, channel, Form::Tape, content),
-        (Route::PullTape, Some(tape)) => on_tapes(TapeCommand::Pull { tape }),
-        (Route::ShelveTape, Some(tape)) => {
-            return ask_in_body(alloc, channel, Form::Shelf(tape), content);
-        }
-        (Route::Clips, _) => return ask_in_body(alloc, channel, Form::Clip, content),
-        (Route::RetireClip, Some(clip)) => on_clips(ClipCommand::Retire { clip }),
-        (Route::Offers, _) => return ask_in_body(alloc, channel, Form::Offer, content),
-        (Route::WithdrawOffer, Some(offer)) => on_offers(OfferCommand::Withdraw { offer }),
-        (Route::Days, _) => return ask_in_body(alloc, channel, Form::Day, content),
-        (Route::Day(route), row) => {
-            let Some(day) = day_in_path(numbers.day) else {
-                return Ok(ParsedRequest::Refused(HttpError::NotFound));
-            };
-            return ask_of_day(alloc, route, channel, day, row, content);
-        }
-        (Route::Channel, _) => Command::PlanRow,
-        (Route::Table(table), _) => Command::Table(table),
-        (Route::PullTape | Route::ShelveTape | Route::RetireClip | Route::WithdrawOffer, None) => {
-            return Ok(ParsedRequest::Refused(HttpError::NotFound));
-        }
-    };
-    Ok(ParsedRequest::Command(channel, command))
+    match command_of(alloc, route, numbers, content) {
+        Ok(command) => Ok(ParsedRequest::Command(channel, command)),
+        Err(AskFault::NotFound) => Ok(ParsedRequest::Refused(HttpError::NotFound)),
+        Err(AskFault::BadBody) => Ok(ParsedRequest::Refused(HttpError::BadMessage)),
+        Err(AskFault::Unavailable) => Err(Unavailable),
+    }
 }
 
 // What a path and a body ask of the routes of a method.

@@ -1,69 +1,44 @@
 //! The routes of the office, and what a path says: its route, and the numbers in it (RFC 3986, section 3.3).
-ghost use Rattle.std.specs.Prelude.{◌≡◌, [], true, IfOk, None, map, option_map, option_and_then};
+ghost use Rattle.std.specs.Prelude.{◌≡◌, [], true, IfOk, None, map, ok_or, option_map, option_and_then};
 ghost use Rattle.std.specs.List.{list_all};
 ghost use Rattle.std.specs.Char.{is_ascii as is_ascii_byte};
 ghost use Rattle.channel_view_model.specs.Days.{day_number};
 ghost use Rattle.http_office_requests.specs.Request.{with_routes, post_router, get_router, route_and_numbers};
 ghost use Rattle.http_office_requests.specs.Request.{channel_number, row_number};
 ghost use Rattle.http_office_requests.specs.Found.{HasPlainTexts};
+ghost use Rattle.http_office_requests.specs.declared.fault.AskFault.TheVariants.{NotFound};
 ghost use Rattle.matchit.specs.Seek.{first};
 
+use crate::fault::AskFault;
 use channel_plan::LAST_CHANNEL;
 use channel_view_model::{DayNumber, Table};
 use matchit::Router;
 use std::alloc::Global;
 use timecode::{Unavailable, whole_number};
 
-/// What the routes lead to.
+/// What a path asks. The paths stand in [`Routes::new`], and `command_of` makes the command of each.
 #[derive(Clone, Copy)]
 pub enum Route {
-    /// `/ch/{ch}/tapes`
-    Tapes,
-    /// `/ch/{ch}/tapes/{n}/pull`
+    AddTape,
     PullTape,
-    /// `/ch/{ch}/tapes/{n}/shelve`
     ShelveTape,
-    /// `/ch/{ch}/clips`
-    Clips,
-    /// `/ch/{ch}/clips/{n}/retire`
+    AddClip,
     RetireClip,
-    /// `/ch/{ch}/offers`
-    Offers,
-    /// `/ch/{ch}/offers/{n}/withdraw`
+    MakeOffer,
     WithdrawOffer,
-    /// `/ch/{ch}/days`
-    Days,
-    /// A path of one broadcast day
-    Day(DayRoute),
-    /// `/ch/{ch}`, to be read
-    Channel,
-    /// `/ch/{ch}/tapes`, `/ch/{ch}/clips`, `/ch/{ch}/offers`, `/ch/{ch}/lent` or `/ch/{ch}/days`, to be read
-    Table(Table),
-}
-
-/// What the routes of one broadcast day lead to.
-#[derive(Clone, Copy)]
-pub enum DayRoute {
-    /// `/ch/{ch}/days/{day}/items`
-    Items,
-    /// `/ch/{ch}/days/{day}/items/{n}/remove`
+    OpenDay,
+    AddItem,
     RemoveItem,
-    /// `/ch/{ch}/days/{day}/revise`
     Revise,
-    /// `/ch/{ch}/days/{day}/import/strict`
     ImportStrict,
-    /// `/ch/{ch}/days/{day}/import/ignore`
     ImportIgnoring,
-    /// `/ch/{ch}/days/{day}/seal`
     Seal,
-    /// `/ch/{ch}/days/{day}/asrun/{n}`
     TakeBatch,
-    /// `/ch/{ch}/days/{day}`, to be read
-    Plan,
-    /// `/ch/{ch}/days/{day}/list`, to be read
-    List,
-    /// `/ch/{ch}/days/{day}/match`, to be read
-    Match,
+    PlanRow,
+    WriteTable(Table),
+    WritePlan,
+    ExportList,
+    WriteMatch,
 }
 
 /// The numbers in a path, by the names that its route gives them: `None` where a part isn't one.
@@ -95,11 +70,20 @@ fn row_in_path(part: &str) -> Option<u32>
     Some(number as u32)
 }
 
-/// The number of a day in a path.
-pub(crate) fn day_in_path(number: Option<u32>) -> Option<DayNumber>
-    ensures { result ≡ option_and_then day_number number }
-{
-    DayNumber::new(number?)
+impl PathNumbers {
+    /// The number of a row, where the path is to have one.
+    pub(crate) fn needed_row(self) -> Result<u32, AskFault>
+        ensures { result ≡ ok_or self.row NotFound }
+    {
+        self.row.ok_or(AskFault::NotFound)
+    }
+
+    /// The number of a broadcast day, where the path is to have one.
+    pub(crate) fn needed_day(self) -> Result<DayNumber, AskFault>
+        ensures { result ≡ ok_or (option_and_then day_number self.day) NotFound }
+    {
+        self.day.and_then(DayNumber::new).ok_or(AskFault::NotFound)
+    }
 }
 
 // The router of these routes.
@@ -131,47 +115,35 @@ impl Routes {
         let post = router_of(
             alloc,
             &[
-                ("/ch/{ch}/tapes", Route::Tapes),
+                ("/ch/{ch}/tapes", Route::AddTape),
                 ("/ch/{ch}/tapes/{n}/pull", Route::PullTape),
                 ("/ch/{ch}/tapes/{n}/shelve", Route::ShelveTape),
-                ("/ch/{ch}/clips", Route::Clips),
+                ("/ch/{ch}/clips", Route::AddClip),
                 ("/ch/{ch}/clips/{n}/retire", Route::RetireClip),
-                ("/ch/{ch}/offers", Route::Offers),
+                ("/ch/{ch}/offers", Route::MakeOffer),
                 ("/ch/{ch}/offers/{n}/withdraw", Route::WithdrawOffer),
-                ("/ch/{ch}/days", Route::Days),
-                ("/ch/{ch}/days/{day}/items", Route::Day(DayRoute::Items)),
-                (
-                    "/ch/{ch}/days/{day}/items/{n}/remove",
-                    Route::Day(DayRoute::RemoveItem),
-                ),
-                ("/ch/{ch}/days/{day}/revise", Route::Day(DayRoute::Revise)),
-                (
-                    "/ch/{ch}/days/{day}/import/strict",
-                    Route::Day(DayRoute::ImportStrict),
-                ),
-                (
-                    "/ch/{ch}/days/{day}/import/ignore",
-                    Route::Day(DayRoute::ImportIgnoring),
-                ),
-                ("/ch/{ch}/days/{day}/seal", Route::Day(DayRoute::Seal)),
-                (
-                    "/ch/{ch}/days/{day}/asrun/{n}",
-                    Route::Day(DayRoute::TakeBatch),
-                ),
+                ("/ch/{ch}/days", Route::OpenDay),
+                ("/ch/{ch}/days/{day}/items", Route::AddItem),
+                ("/ch/{ch}/days/{day}/items/{n}/remove", Route::RemoveItem),
+                ("/ch/{ch}/days/{day}/revise", Route::Revise),
+                ("/ch/{ch}/days/{day}/import/strict", Route::ImportStrict),
+                ("/ch/{ch}/days/{day}/import/ignore", Route::ImportIgnoring),
+                ("/ch/{ch}/days/{day}/seal", Route::Seal),
+                ("/ch/{ch}/days/{day}/asrun/{n}", Route::TakeBatch),
             ],
         )?;
         let get = router_of(
             alloc,
             &[
-                ("/ch/{ch}", Route::Channel),
-                ("/ch/{ch}/tapes", Route::Table(Table::Vault)),
-                ("/ch/{ch}/clips", Route::Table(Table::Clips)),
-                ("/ch/{ch}/offers", Route::Table(Table::Offers)),
-                ("/ch/{ch}/lent", Route::Table(Table::Lent)),
-                ("/ch/{ch}/days", Route::Table(Table::Days)),
-                ("/ch/{ch}/days/{day}", Route::Day(DayRoute::Plan)),
-                ("/ch/{ch}/days/{day}/list", Route::Day(DayRoute::List)),
-                ("/ch/{ch}/days/{day}/match", Route::Day(DayRoute::Match)),
+                ("/ch/{ch}", Route::PlanRow),
+                ("/ch/{ch}/tapes", Route::WriteTable(Table::Vault)),
+                ("/ch/{ch}/clips", Route::WriteTable(Table::Clips)),
+                ("/ch/{ch}/offers", Route::WriteTable(Table::Offers)),
+                ("/ch/{ch}/lent", Route::WriteTable(Table::Lent)),
+                ("/ch/{ch}/days", Route::WriteTable(Table::Days)),
+                ("/ch/{ch}/days/{day}", Route::WritePlan),
+                ("/ch/{ch}/days/{day}/list", Route::ExportList),
+                ("/ch/{ch}/days/{day}/match", Route::WriteMatch),
             ],
         )?;
         Ok(Routes { post, get })

@@ -10,10 +10,11 @@ use Rattle.playlist_core.specs.declared.item.NewItem.{NewItem}
 use Rattle.playlist_core.specs.Limits.{most_items}
 use Rattle.playlist_core.specs.declared.source.Source.{Source}
 use Rattle.playlist_core.specs.declared.source.Source.TheVariants.{Black, Bars, Own, Lent}
-use Rattle.playlist_core.specs.declared.day.DayState.TheVariants.{Open}
+use Rattle.playlist_core.specs.declared.day.DayState.{DayState}
+use Rattle.playlist_core.specs.declared.day.DayState.TheVariants.{NotThere, Open, Sealed}
 use Rattle.channel_plan.specs.declared.plan.PlanRow.{PlanRow}
 use Rattle.channel_plan.specs.declared.refusal.Code.{Code}
-use Rattle.channel_plan.specs.declared.refusal.Code.TheVariants.{PastDayEnd, MixLong}
+use Rattle.channel_plan.specs.declared.refusal.Code.TheVariants.{EmptyItem, PastDayEnd, MixLong}
 use Rattle.channel_plan.specs.declared.refusal.Refusal.{Refusal}
 use Rattle.channel_plan.specs.Refusal.{refused}
 use Rattle.playlist_core.specs.Picture.{least, first_painted, paint}
@@ -21,7 +22,8 @@ use Rattle.playlist_core.specs.Order.{put}
 use Rattle.playlist_core.specs.Source.{SourcesSeen}
 use Rattle.playlist_core.specs.Item.{planned, is_item, is_kind, first_kept, numbered}
 use Rattle.playlist_core.specs.Day.{Day, KeepsDayRules, FitState, AreNumbered, has_number, free_number, unless}
-use Rattle.playlist_core.specs.Day.{source_fault, unless_taken, with_number, item_of, item_in, with_item, picture_in}
+use Rattle.playlist_core.specs.Day.{if_open, item_for, source_fault, unless_taken, with_number, item_of, item_in}
+use Rattle.playlist_core.specs.Day.{with_item, picture_in}
 use Rattle.playlist_core.proofs.TakenLemmas.{taken_in, taken-first_painted}
 use Rattle.playlist_core.proofs.PlaceLemmas.{at_place}
 use Rattle.playlist_core.proofs.OrderLemmas.{ends_behind, apart_put, picture-put}
@@ -70,7 +72,7 @@ pub record IsAccepted (day : Day) (new : NewItem) (item : Item) : Type 0 where
   pub number : free_number day.items ≡ Some item.n
   pub is : item ≡ numbered item.n item.src new
 
-passed : {X : Type 0} (b : Bool) (e : Refusal) (r : Result X Refusal) (x : X) → (if b then Err e else r) ≡ Ok x
+pub passed : {X : Type 0} (b : Bool) (e : Refusal) (r : Result X Refusal) (x : X) → (if b then Err e else r) ≡ Ok x
     → (b ≡ false) × (r ≡ Ok x)
 passed true e r x h = absurd (cc)
 passed false e r x h = (refl, h)
@@ -113,6 +115,22 @@ accepted day plan seen new item h =
     passed (nat_lt day.frames (new.pos + new.frames)) (refused PastDayEnd) (item_of day plan seen new new.src) item
     h in
     of_source day plan seen new item new.src (ltb-false day.frames (new.pos + new.frames) within.0) within.1
+
+-- an item that is added: the day is open, and takes it
+pub opened : {X : Type 0} (s : DayState) (r : Result X Refusal) (x : X) → if_open s r ≡ Ok x → (s ≡ Open) × (r ≡ Ok x)
+opened NotThere r x h = absurd (cc)
+opened Open r x h = (refl, h)
+opened Sealed r x h = absurd (cc)
+
+pub for_open : (day : Day) (plan : PlanRow) (seen : SourcesSeen) (new : NewItem) (item : Item)
+    → item_for day plan seen new ≡ Ok item
+    → (day.state ≡ Open) × (0 < new.frames) × (item_in day plan seen new ≡ Ok item)
+unfolding item_for
+for_open day plan seen new item h =
+    let of_open =
+    opened day.state (if new.frames == 0 then Err (refused EmptyItem) else item_in day plan seen new) item h in
+    let some = passed (new.frames == 0) (refused EmptyItem) (item_in day plan seen new) item of_open.1 in
+    (of_open.0, grind (arith, nat_tests, some.0), some.1)
 
 fields_put : (a : Item → Bool) (x : Item) (items : List Item) → is_item x ≡ true → list_all is_item items ≡ true
     → list_all is_item (put a x items) ≡ true

@@ -1,6 +1,6 @@
 -- The texts of sources and kinds read as these.
 use Rattle.std.proofs.Common.{◌≡◌, ℕ, zero, suc, ◌+◌, ◌*◌, ◌-◌, ◌/◌, ◌%◌, ◌^◌, ◌<◌, ◌≤◌, Bool, true, false, List, []}
-use Rattle.std.proofs.Common.{◌∷◌, ◌++◌, length, length-append, append_assoc, drop, take, get_or, length-drop}
+use Rattle.std.proofs.Common.{◌∷◌, ◌++◌, length, length-append, drop, take, get_or, length-drop}
 use Rattle.std.proofs.Common.{length-take-le, take-append-drop, Option, Some, None, refl, sym, ap, ap₂, ◌∙◌, subst}
 use Rattle.std.proofs.Common.{arith, lt-ltb, le-leb, true≢false}
 use Rattle.std.specs.Prelude.{◌==◌, ◌&&◌, ◌||◌, nat_lt, nat_le, replicate, decimal, codes, bytes_eq, slice_index}
@@ -18,7 +18,7 @@ use Rattle.std.proofs.Math.Nat.{mul-add-mod_self_right, mod-eq_of_lt, pow-le-pow
 use Rattle.std.proofs.lemmas.List.{length-replicate}
 use Rattle.std.proofs.lemmas.Bool.Decides.{nat_tests}
 use Rattle.std.proofs.lemmas.List.Folds.{list_all-append}
-use Rattle.timecode.specs.Decimal.{decimal_number, is_decimal}
+use Rattle.timecode.specs.Decimal.{decimal_number, in_digits, is_decimal}
 use Rattle.grant_core.specs.ClipRef.{seven_digits}
 use Rattle.playlist_core.specs.declared.source.Source.{Source}
 use Rattle.playlist_core.specs.declared.source.Source.TheVariants.{Black, Bars, Own, Lent}
@@ -34,10 +34,6 @@ first false b both = both
 second : (a b : Bool) → (a && b) ≡ true → b ≡ true
 second true b both = both
 second false b both = absurd (true≢false (sym both))
-
--- a number in so many digits
-abbrev padded : ℕ → ℕ → List ℕ
-padded k n = replicate (k - length (decimal n)) 48 ++ decimal n
 
 zeros_first : (k : ℕ) (ds : List ℕ) → digits_value 10 (replicate k 48 ++ ds) ≡ digits_value 10 ds
 zeros_first zero ds = refl
@@ -76,9 +72,9 @@ all_ascii [] h = refl
 all_ascii (d ∷ ds) h = ap₂ ◌&&◌ (ascii d h.0) (all_ascii ds h.1)
 
 record IsPadded (k n : ℕ) : Type 0 where
-  pub size : length (padded k n) ≡ k
-  pub digits : list_all is_ascii_digit (padded k n) ≡ true
-  pub value : digits_value 10 (padded k n) ≡ n
+  pub size : length (in_digits k n) ≡ k
+  pub digits : list_all is_ascii_digit (in_digits k n) ≡ true
+  pub value : digits_value 10 (in_digits k n) ≡ n
 
 padded_is : (k n : ℕ) → 0 < k → n < 10 ^ k → n < 2 ^ 64 → IsPadded k n
 padded_is k n some below wide =
@@ -107,12 +103,13 @@ seven_is n text size digits value =
     ap (λ l. if l == 7 then decimal_number 7 text else None) size ∙ decimal_is 7 n text (omega arith) size digits value
 
 seven_joined : (owner n : ℕ) → IsPadded 3 owner → IsPadded 4 n
-    → seven_digits (padded 3 owner ++ padded 4 n) ≡ Some (owner * 10000 + n)
+    → seven_digits (in_digits 3 owner ++ in_digits 4 n) ≡ Some (owner * 10000 + n)
 seven_joined owner n a b =
-    seven_is (owner * 10000 + n) (padded 3 owner ++ padded 4 n)
-    (length-append (padded 3 owner) (padded 4 n) ∙ ap₂ ◌+◌ a.size b.size)
-    (list_all-append is_ascii_digit (padded 3 owner) (padded 4 n) ∙ ap₂ ◌&&◌ a.digits b.digits)
-    (joined_digits 0 (padded 3 owner) (padded 4 n) ∙ four_behind (digits_value 10 (padded 3 owner)) (padded 4 n) b.size
+    seven_is (owner * 10000 + n) (in_digits 3 owner ++ in_digits 4 n)
+    (length-append (in_digits 3 owner) (in_digits 4 n) ∙ ap₂ ◌+◌ a.size b.size)
+    (list_all-append is_ascii_digit (in_digits 3 owner) (in_digits 4 n) ∙ ap₂ ◌&&◌ a.digits b.digits)
+    (joined_digits 0 (in_digits 3 owner) (in_digits 4 n)
+    ∙ four_behind (digits_value 10 (in_digits 3 owner)) (in_digits 4 n) b.size
     ∙ ap₂ (λ o k. o * 10000 + k) a.value b.value)
 
 pub source_again : (s : Source) → is_source s ≡ true → source_of_reel (source_reel s) ≡ Some s
@@ -121,15 +118,13 @@ source_again Bars is = refl
 source_again (Own n) is =
     let below : n < 10 ^ 7 = grind (arith, nat_tests, is) in
     let p = padded_is 7 n (omega arith) below (omega (arith, below)) in
-    ap own_source (seven_is n (padded 7 n) p.size p.digits p.value)
+    ap own_source (seven_is n (in_digits 7 n) p.size p.digits p.value)
 source_again (Lent owner n) is =
     let few : owner < 1000 = grind (arith, nat_tests, is) in
     let below : n < 10000 = grind (arith, nat_tests, is) in
     let a = padded_is 3 owner (omega arith) (omega (arith, few)) (omega (arith, few)) in
     let b = padded_is 4 n (omega arith) (omega (arith, below)) (omega (arith, below)) in
-    ap (λ digits. lent_source (seven_digits digits))
-    (sym (append_assoc (replicate (3 - length (decimal owner)) 48) (decimal owner) (padded 4 n)))
-    ∙ ap lent_source (seven_joined owner n a b)
+    ap lent_source (seven_joined owner n a b)
     ∙ ap₂ (λ o k. Some (Lent o k)) (div-mul-add owner 10000 n below)
     (mul-add-mod_self_right owner 10000 n ∙ mod-eq_of_lt below)
 
@@ -139,7 +134,7 @@ kind_again Dissolve is = refl
 kind_again (Wipe n) is =
     let few : n < 1000 = grind (arith, nat_tests, is) in
     let p = padded_is 3 n (omega arith) (omega (arith, few)) (omega (arith, few)) in
-    ap wipe (decimal_is 3 n (padded 3 n) (omega arith) p.size p.digits p.value)
+    ap wipe (decimal_is 3 n (in_digits 3 n) (omega arith) p.size p.digits p.value)
 
 -- ---- and a text that reads as one, in the form that is written, is its text
 
@@ -152,12 +147,12 @@ all_digits (d ∷ ds) h = (digit d (first _ _ h), all_digits ds (second (is_asci
         let value = digit_value_digit c (grind (arith, nat_tests, is), grind (arith, nat_tests, is)) in
         grind (arith, nat_tests, is, value)
 
-no_zeros : (v : ℕ) (ds : List ℕ) → decimal v ≡ ds → padded (length ds) v ≡ ds
+no_zeros : (v : ℕ) (ds : List ℕ) → decimal v ≡ ds → in_digits (length ds) v ≡ ds
 no_zeros v ds is =
     let none : length ds - length ds ≡ 0 = omega arith in
     ap (λ t. replicate (length ds - length t) 48 ++ t) is ∙ ap (λ k. replicate k 48 ++ ds) none
 
-one_zero : (v k : ℕ) → length (decimal v) ≤ k → padded (suc k) v ≡ 48 ∷ padded k v
+one_zero : (v k : ℕ) → length (decimal v) ≤ k → in_digits (suc k) v ≡ 48 ∷ in_digits k v
 one_zero v k few =
     let more : suc k - length (decimal v) ≡ suc (k - length (decimal v)) = omega (arith, few) in
     ap (λ z. replicate z 48 ++ decimal v) more
@@ -169,27 +164,27 @@ below_seven ds few digits =
     omega (arith, below, most)
 
 written : (ds : List ℕ) → 0 < length ds → length ds ≤ 7 → AllDigits 10 ds → (get_or ds 0 0 ≡ 48 → length ds ≡ 1)
-    → padded (length ds) (digits_value 10 ds) ≡ ds
+    → in_digits (length ds) (digits_value 10 ds) ≡ ds
 written ds some few digits lead =
     no_zeros (digits_value 10 ds) ds
     (decimal-digits_value (numerals_by_value (AllDigits 10) tells_digits) ds digits some lead
     (below_seven ds few digits))
 
 padded_of : (ds : List ℕ) → 0 < length ds → length ds ≤ 7 → AllDigits 10 ds
-    → padded (length ds) (digits_value 10 ds) ≡ ds
+    → in_digits (length ds) (digits_value 10 ds) ≡ ds
 padded_of [] some few digits = absurd (omega arith)
 padded_of (d ∷ []) some few digits = written (d ∷ []) some few digits (λ _. refl)
 padded_of (d ∷ e ∷ ds) some few digits = by (d == 48) refl (padded_of (e ∷ ds) (omega arith) (omega arith) digits.1)
   where
-    by : (b : Bool) → (d == 48) ≡ b → padded (length (e ∷ ds)) (digits_value 10 (e ∷ ds)) ≡ e ∷ ds
-        → padded (length (d ∷ e ∷ ds)) (digits_value 10 (d ∷ e ∷ ds)) ≡ d ∷ e ∷ ds
+    by : (b : Bool) → (d == 48) ≡ b → in_digits (length (e ∷ ds)) (digits_value 10 (e ∷ ds)) ≡ e ∷ ds
+        → in_digits (length (d ∷ e ∷ ds)) (digits_value 10 (d ∷ e ∷ ds)) ≡ d ∷ e ∷ ds
     by false other rest = written (d ∷ e ∷ ds) some few digits (λ same. absurd (grind (arith, nat_tests, other, same)))
     by true same rest =
         let zero_is : 48 ≡ d = grind (arith, nat_tests, same) in
         let short : length (decimal (digits_value 10 (e ∷ ds))) ≤ length (e ∷ ds) =
         length-decimal-le (length (e ∷ ds)) (digits_value 10 (e ∷ ds)) (omega arith)
         (digits_value-lt 10 (e ∷ ds) digits.1) (below_seven (e ∷ ds) (omega arith) digits.1) in
-        subst (λ z. padded (length (z ∷ e ∷ ds)) (digits_value 10 (z ∷ e ∷ ds)) ≡ z ∷ e ∷ ds) zero_is
+        subst (λ z. in_digits (length (z ∷ e ∷ ds)) (digits_value 10 (z ∷ e ∷ ds)) ≡ z ∷ e ∷ ds) zero_is
         (one_zero (digits_value 10 (e ∷ ds)) (length (e ∷ ds)) short ∙ ap (λ l. 48 ∷ l) rest)
 
 record IsNumber (most n : ℕ) (text : List ℕ) : Type 0 where
@@ -234,7 +229,7 @@ own_is digits s is = by (seven_digits digits) refl is
         let mine : Own n ≡ s = cc in
         ap source_reel (sym mine)
         ∙ ap (λ t. 67 ∷ t)
-        (ap₂ padded (sym seven.0) (sym seven.1.value) ∙ padded_of digits seven.1.some seven.1.few seven.1.digits)
+        (ap₂ in_digits (sym seven.0) (sym seven.1.value) ∙ padded_of digits seven.1.some seven.1.few seven.1.digits)
 
 digits_front : (k : ℕ) (ds : List ℕ) → AllDigits 10 ds → AllDigits 10 (take k ds) × AllDigits 10 (drop k ds)
 digits_front zero ds all = (tt, all)
@@ -268,12 +263,10 @@ lent_is digits s is = by (seven_digits digits) refl is
         ap source_reel (sym mine)
         ∙ ap₂ (λ o k. source_reel (Lent o k)) owner_is number_is
         ∙ ap (λ t. 76 ∷ t)
-        (sym (append_assoc (replicate (3 - length (decimal (digits_value 10 front))) 48)
-        (decimal (digits_value 10 front)) (padded 4 (digits_value 10 back)))
-        ∙ ap₂ (λ a b. a ++ b)
-        (ap (λ k. padded k (digits_value 10 front)) (sym three)
+        (ap₂ (λ a b. a ++ b)
+        (ap (λ k. in_digits k (digits_value 10 front)) (sym three)
         ∙ padded_of front (omega (arith, three)) (omega (arith, three)) parts.0)
-        (ap (λ k. padded k (digits_value 10 back)) (sym four)
+        (ap (λ k. in_digits k (digits_value 10 back)) (sym four)
         ∙ padded_of back (omega (arith, four)) (omega (arith, four)) parts.1)
         ∙ split)
 
@@ -320,7 +313,7 @@ word_is text k is four =
         let three : length (drop 1 text) ≡ 3 = length-drop 1 text ∙ omega (arith, size) in
         ap kind_text (sym mine)
         ∙ ap (λ t. 87 ∷ t)
-        (ap₂ padded (sym three) (sym number.value)
+        (ap₂ in_digits (sym three) (sym number.value)
         ∙ padded_of (drop 1 text) number.some (omega (arith, number.few)) number.digits)
         ∙ whole text letter (omega (arith, size))
       where

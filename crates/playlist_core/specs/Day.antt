@@ -1,11 +1,11 @@
 -- Part of the promise: a broadcast day: its number, how many frames it has, its state, and its items.
 use Rattle.std.specs.Prelude.{◌≡◌, ℕ, ◌+◌, ◌-◌, ◌%◌, ◌<◌, ◌≤◌, List, [], ◌∷◌, Bool, true, false, not, ◌||◌, ◌==◌}
-use Rattle.std.specs.Prelude.{nat_lt, Option, Some, None, Result, Ok, Err, ◌⊎◌, map, filter, find, bytes_eq}
+use Rattle.std.specs.Prelude.{nat_lt, Option, Some, None, Result, Ok, Err, ◌⊎◌, map, filter, find}
 use Rattle.std.specs.Prelude.{if◌then◌else◌}
 use Rattle.std.specs.List.{list_any, list_all}
 use Rattle.std.proofs.Common.{inl, inr}
 use Rattle.timecode.specs.declared.labels.Label.{Label}
-use Rattle.timecode.specs.Rate.{rate_text}
+use Rattle.timecode.specs.Rate.{is_same_rate}
 use Rattle.timecode.specs.Counting.{address_of_frame, day_length}
 use Rattle.timecode.specs.Label.{label_of}
 use Rattle.channel_plan.specs.Limits.{last_day}
@@ -104,7 +104,7 @@ row_fault plan n new (Some (inl k)) = if k.retired then Some ClipRetired else ra
 row_fault plan n new (Some (inr g)) =
     if g.offer.withdrawn then Some Withdrawn else
     if not (is_in g.offer.window n) then Some OutsideWindow else
-    if not (bytes_eq (rate_text g.offer.rate) (rate_text plan.rate)) then Some RateDiffers else
+    if not (is_same_rate g.offer.rate plan.rate) then Some RateDiffers else
     range_fault g.offer.src_first g.offer.frames new
 
 -- black and bars show any frames
@@ -146,7 +146,9 @@ unfoldable pub item_for : Day → PlanRow → SourcesSeen → NewItem → Result
 item_for day plan seen new =
     if_open day.state (if new.frames == 0 then Err (refused EmptyItem) else item_in day plan seen new)
 
--- with one item more, in front of the first that ends behind the place where it begins
+-- With one item more: to add it is to paint it, and leaves all others (the laws `adding_is_painting` and
+-- `adding_leaves_the_others`). For the order of the positions it stands in front of the first that ends behind its
+-- first frame.
 abbrev pub with_item : Item → Day → Day
 with_item item day = record day { items = put (λ i. nat_lt item.pos (i.pos + i.frames)) item day.items }
 

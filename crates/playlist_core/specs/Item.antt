@@ -1,7 +1,8 @@
 -- Items: their fields, and what they show.
-use Rattle.std.specs.Prelude.{ℕ, ◌-◌, List, ◌∷◌, ◌++◌, Bool, true, ◌&&◌, ◌==◌, nat_le, length, replicate, decimal}
-use Rattle.std.specs.Prelude.{Option, Some, None, codes, bytes_eq, drop, slice_index, if◌then◌else◌}
-use Rattle.timecode.specs.Decimal.{decimal_number}
+use Rattle.std.specs.Prelude.{ℕ, List, ◌∷◌, Bool, true, ◌&&◌, ◌==◌, nat_le, Option, Some, None, codes, bytes_eq}
+use Rattle.std.specs.Prelude.{drop, slice_index, if◌then◌else◌}
+use Rattle.timecode.specs.Decimal.{decimal_number, in_digits}
+use Rattle.timecode.specs.Letters.{letter_W}
 use Rattle.playlist_core.specs.Limits.{most_mix, last_wipe}
 use Rattle.playlist_core.specs.declared.item.EditKind.{EditKind}
 use Rattle.playlist_core.specs.declared.item.EditKind.TheVariants.{Cut, Dissolve, Wipe}
@@ -18,11 +19,11 @@ is_kind Cut = true
 is_kind Dissolve = true
 is_kind (Wipe n) = nat_le n last_wipe
 
--- `W` (87) and the wipe's number in 3 digits
+-- `W` and the wipe's number in 3 digits
 abbrev pub kind_text : EditKind → List ℕ
 kind_text Cut = codes "C"
 kind_text Dissolve = codes "D"
-kind_text (Wipe n) = 87 ∷ (replicate (3 - length (decimal n)) 48 ++ decimal n)
+kind_text (Wipe n) = letter_W ∷ in_digits 3 n
 
 -- the kind that a word of an edit list says; any other says none
 abbrev pub wipe : Option ℕ → Option EditKind
@@ -33,7 +34,7 @@ abbrev pub kind_of : List ℕ → Option EditKind
 kind_of word =
     if bytes_eq word (codes "C") then Some Cut else
     if bytes_eq word (codes "D") then Some Dissolve else
-    if slice_index word 0 == 87 then wipe (decimal_number 3 (drop 1 word)) else
+    if slice_index word 0 == letter_W then wipe (decimal_number 3 (drop 1 word)) else
     None
 
 -- the source's first frame that an item keeps: black and bars have none but 0

@@ -2,6 +2,7 @@
 use Rattle.std.specs.Prelude.{ℕ, ◌+◌, ◌/◌, ◌%◌, ◌^◌, List, [], ◌∷◌, Bool, true, ◌||◌, ◌&&◌, ◌==◌, nat_lt}
 use Rattle.std.specs.Prelude.{Option, Some, None, ◌⊎◌, find, codes, bytes_eq, if◌then◌else◌}
 use Rattle.std.proofs.Common.{inl, inr}
+use Rattle.timecode.specs.Letters.{letter_C, letter_L}
 use Rattle.vault_core.specs.declared.clip.Clip.{Clip}
 use Rattle.vault_core.specs.Reel.{clip_reel}
 use Rattle.grant_core.specs.declared.grant.Grant.{Grant}
@@ -29,12 +30,12 @@ abbrev pub lent_source : Option ℕ → Option Source
 lent_source None = None
 lent_source (Some n) = Some (Lent (n / 10000) (n % 10000))
 
--- `C` (67) and 7 digits is a clip by its number; `L` (76) and 7 digits is a lent one
+-- `C` and 7 digits is a clip by its number; `L` and 7 digits is a lent one
 abbrev pub numbered_source : List ℕ → Option Source
 numbered_source [] = None
 numbered_source (b ∷ digits) =
-    if b == 67 then own_source (seven_digits digits) else
-    if b == 76 then lent_source (seven_digits digits) else
+    if b == letter_C then own_source (seven_digits digits) else
+    if b == letter_L then lent_source (seven_digits digits) else
     None
 
 -- the source that a reel names, if it names one

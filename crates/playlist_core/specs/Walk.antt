@@ -1,4 +1,5 @@
--- Items in the order of their positions, gone through from the front.
+-- For the proof of a walk over two days, and no part of the promise, which says what the walk finds by `not_among`:
+-- the items of one day from a position on, gone through from the front.
 use Rattle.std.specs.Prelude.{ℕ, nat_le, Bool, false, List, [], ◌∷◌, drop}
 use Rattle.std.specs.List.{position_or_len}
 use Rattle.playlist_core.specs.declared.item.Item.{Item}

@@ -265,7 +265,6 @@ impl DayPlan {
 
     /// Adds the item of [`DayPlan::item_for`] and gives its number. A refusal leaves the day as it was: one of those
     /// there, or, where none holds, [`Code::Unavailable`] for want of memory.
-    #[tactic(auto, unfolding(crate::specs::Day::item_for))]
     pub fn add_item<S: Sources>(
         &mut self,
         plan: &PlanRow,
@@ -280,33 +279,8 @@ impl DayPlan {
         ensures refused { IfErr result (λ e. (self.new ≡ self.old)
             × IsRefusalOf (item_for self.old plan.now (S.seen sources.now) new.now) e) }
     {
-        self.check_open()?;
-        if new.frames == 0 {
-            return Err(Refusal::of(Code::EmptyItem));
-        }
-        self.take_item(plan, sources, new)
-    }
-
-    /// Adds the item of [`DayPlan::item_in`] to an open day and gives its number: [`DayPlan::add_item`] from
-    /// `PastDayEnd` on, want of memory last.
-    pub fn take_item<S: Sources>(
-        &mut self,
-        plan: &PlanRow,
-        sources: &S,
-        new: &NewItem,
-    ) -> Result<u16, Refusal>
-        requires open { self.old.state ≡ DayState.Open }
-        requires some { 0 < new.now.frames }
-        requires mix { new.now.mix ≤ most_mix }
-        requires kind { is_kind new.now.kind ≡ true }
-        ensures taken { IfOk result (λ n. (item : Item)
-            × (item_in self.old plan.now (S.seen sources.now) new.now ≡ Ok item)
-            × (n ≡ item.n) × (self.new ≡ with_item item self.old)) }
-        ensures refused { IfErr result (λ e. (self.new ≡ self.old)
-            × IsRefusalOf (item_in self.old plan.now (S.seen sources.now) new.now) e) }
-    {
         self.keep_the_rules();
-        let item = self.item_in(plan, sources, new)?;
+        let item = self.item_for(plan, sources, new)?;
         let number = item.n;
         match self.insert(item) {
             Ok(()) => Ok(number),

@@ -125,7 +125,7 @@ fn row_fault(plan: &PlanRow, day: u32, new: &NewItem, row: Option<SourceRow<'_>>
             if !grant.offer.lends_in(day) {
                 return Some(Code::OutsideWindow);
             }
-            if grant.offer.rate.text().as_bytes() != plan.rate.text().as_bytes() {
+            if grant.offer.rate != plan.rate {
                 return Some(Code::RateDiffers);
             }
             range_fault(grant.offer.src_first, grant.offer.frames, new)

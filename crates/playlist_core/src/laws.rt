@@ -1,5 +1,5 @@
 //! Laws of days: each is the contract of a function that does nothing.
-ghost use Rattle.std.specs.Prelude.{◌≡◌, ℕ, ◌<◌, ◌≤◌, ◌-◌, Contains, IsPermutation, List, Some, None, true};
+ghost use Rattle.std.specs.Prelude.{◌≡◌, ℕ, ◌<◌, ◌≤◌, ◌-◌, Contains, IsPermutation, List, Some, None, true, ◌∷◌};
 ghost use Rattle.std.specs.Prelude.{count_by, slice_index_or};
 ghost use Rattle.playlist_core.specs.declared.item.Item.{Item};
 ghost use Rattle.playlist_core.specs.declared.day.DayState.TheVariants as DayState;
@@ -16,6 +16,11 @@ pub fn a_picture_knows_no_order()
 /// To add an item is to paint it.
 pub fn adding_is_painting()
     ensures { (day : Day) (item : Item) → picture_in (with_item item day) ≡ paint (planned item) (picture_in day) }
+{}
+
+/// To add an item leaves all others.
+pub fn adding_leaves_the_others()
+    ensures { (day : Day) (item : Item) → IsPermutation (item ∷ day.items) (with_item item day).items }
 {}
 
 /// No frame of a day has two items, and each frame of a sealed day has one.

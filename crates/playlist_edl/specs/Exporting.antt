@@ -1,11 +1,11 @@
 -- Part of the promise: the list that a day is exported as.
-use Rattle.std.specs.Prelude.{◌≡◌, ℕ, ◌+◌, ◌-◌, ◌%◌, ◌≤◌, List, [], ◌∷◌, ◌++◌, Bool, true, ◌&&◌, ◌==◌, nat_le, Option}
-use Rattle.std.specs.Prelude.{Some, None, Result, Ok, Err, ◌⊎◌, IfSome, find, length, replicate, decimal, codes}
-use Rattle.std.specs.Prelude.{string_bytes, if◌then◌else◌}
+use Rattle.std.specs.Prelude.{◌≡◌, ℕ, ◌+◌, ◌%◌, ◌≤◌, List, [], ◌∷◌, ◌++◌, Bool, true, ◌&&◌, ◌==◌, nat_le, Option}
+use Rattle.std.specs.Prelude.{Some, None, Result, Ok, Err, ◌⊎◌, IfSome, find, codes, string_bytes, if◌then◌else◌}
 use Rattle.std.specs.List.{cons_option, list_any}
 use Rattle.std.specs.Option.{option_map}
 use Rattle.std.proofs.Common.{inl, inr}
 use Rattle.timecode.specs.Counting.{day_length}
+use Rattle.timecode.specs.Decimal.{in_digits}
 use Rattle.channel_plan.specs.declared.plan.PlanRow.{PlanRow}
 use Rattle.channel_plan.specs.declared.refusal.Code.TheVariants.{NoDay, WholeDay}
 use Rattle.channel_plan.specs.declared.refusal.Refusal.{Refusal}
@@ -29,13 +29,9 @@ use Rattle.playlist_edl.specs.declared.exporting.Line.{Line}
 abbrev pub record_frame : PlanRow → ℕ → ℕ
 record_frame plan p = (plan.start + p) % day_length plan.rate
 
--- the number in so many digits or more
-abbrev pub filled : ℕ → ℕ → List ℕ
-filled digits n = replicate (digits - length (decimal n)) 48 ++ decimal n
-
 -- as `CH 001 DAY 00001`
 abbrev pub title_text : ℕ → ℕ → List ℕ
-title_text channel day = codes "CH " ++ (filled 3 channel ++ (codes " DAY " ++ filled 5 day))
+title_text channel day = codes "CH " ++ (in_digits 3 channel ++ (codes " DAY " ++ in_digits 5 day))
 
 -- the title of the clip or of the lent clip that a source names
 abbrev pub row_title : Option (Clip ⊎ Grant) → Option (List ℕ)

@@ -5,8 +5,8 @@ use Rattle.edl.specs.Entry.{EventEntry}
 use Rattle.edl.specs.ListOf.{IsListOf}
 use Rattle.edl_lines.specs.Json.{json_lines}
 use Rattle.edl_lines.specs.Csv.{csv_lines}
-use Rattle.playout_words.specs.declared.words.EventForm.{EventForm}
-use Rattle.playout_words.specs.declared.words.EventForm.TheVariants as form
+use Rattle.playout_args.specs.declared.words.EventForm.{EventForm}
+use Rattle.playout_args.specs.declared.words.EventForm.TheVariants as form
 use Rattle.playout_actions.specs.Checking.{list_limit}
 use Rattle.playout_actions.specs.Streams.{ReadsAll}
 

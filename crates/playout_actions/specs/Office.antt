@@ -26,12 +26,12 @@ use Rattle.playout_actions.specs.Listing.{ListsInput}
 use Rattle.playout_actions.specs.Named.{ChecksFiles, Holds, StopsAtFile}
 use Rattle.playout_actions.specs.Comparing.{ComparesFiles, TellsComparing, WriteHas}
 use Rattle.playout_actions.specs.declared.comparing.CompareFault.{CompareFault}
-use Rattle.playout_words.specs.declared.words.EventForm.{EventForm}
-use Rattle.playout_words.specs.Words.{AreRead}
-use Rattle.playout_words.specs.declared.words.Action.{Action}
-use Rattle.playout_words.specs.declared.words.Action.TheVariants as asks
-use Rattle.playout_words.specs.declared.words.NoAction.{NoAction}
-use Rattle.playout_words.specs.declared.words.NoAction.TheVariants as said
+use Rattle.playout_args.specs.declared.words.EventForm.{EventForm}
+use Rattle.playout_args.specs.Words.{AreRead}
+use Rattle.playout_args.specs.declared.words.Action.{Action}
+use Rattle.playout_args.specs.declared.words.Action.TheVariants as asks
+use Rattle.playout_args.specs.declared.words.NoAction.{NoAction}
+use Rattle.playout_args.specs.declared.words.NoAction.TheVariants as said
 
 -- what the streams hold before and after: the input, the output and standard error; and the exit status
 pub record Office : Type 0 where

@@ -9,8 +9,8 @@ use Rattle.channel_view_model.specs.TableText.{table_text, text_at}
 use Rattle.channel_view_model.specs.declared.table.Table.{Table}
 use Rattle.channel_view_model.specs.declared.table.Table.TheVariants as kind
 use Rattle.channel_view_model.specs.declared.view.View.{View}
-use Rattle.playout_words.specs.declared.words.TableName.{TableName}
-use Rattle.playout_words.specs.declared.words.TableName.TheVariants as word
+use Rattle.playout_args.specs.declared.words.TableName.{TableName}
+use Rattle.playout_args.specs.declared.words.TableName.TheVariants as word
 use Rattle.playout_actions.specs.declared.fault.Fault.{Fault}
 use Rattle.playout_actions.specs.declared.fault.Fault.TheVariants.{Label, List as OfList, Refused, NoChannel, Open}
 use Rattle.playout_actions.specs.declared.fault.Fault.TheVariants.{Listen, Stream}

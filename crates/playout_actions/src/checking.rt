@@ -15,7 +15,7 @@ use crate::streams::{StreamFault, read_input};
 use channel_plan::ListFault;
 use edl::{Event, read_from_string};
 use http_office_requests::BODY_LIMIT;
-use reports::{Line, print_line, push, push_decimal};
+use reports::{LineBuffer, print_line, push, push_decimal};
 use std::alloc::Global;
 use std::io::{Read, Write};
 use timecode::Rate;
@@ -51,10 +51,10 @@ pub struct Counts {
 }
 
 /// As `events 2 picture 2 sound 0 notes 1`.
-pub(crate) fn text_of(counts: Counts) -> Line
+pub(crate) fn text_of(counts: Counts) -> LineBuffer
     ensures { result.items ≡ text_of_counts counts }
 {
-    let mut line = Line::new();
+    let mut line = LineBuffer::new();
     push(&mut line, b"events ");
     push_decimal(&mut line, counts.events);
     push(&mut line, b" picture ");

@@ -8,11 +8,11 @@ ghost use Rattle.playout_actions.specs.Fault.{line_of, stream_fault_text, text_o
 use crate::fault::Fault;
 use crate::streams::{InputFault, StreamFault};
 use channel_plan::{At, LineFault, ListFault, Refusal};
-use reports::{Line, push, push_decimal};
+use reports::{LineBuffer, push, push_decimal};
 use timecode::TcFault;
 
 // A number and a name.
-fn push_numbered(line: &mut Line, number: u16, name: &str)
+fn push_numbered(line: &mut LineBuffer, number: u16, name: &str)
     requires { length line.old.items + length name.now + 6 ≤ 256 }
     ensures items { line.new.items ≡ line.old.items ++ (decimal number ++ (codes " " ++ name.now)) }
     ensures len { length line.new.items ≤ length line.old.items + length name.now + 6 }
@@ -23,7 +23,7 @@ fn push_numbered(line: &mut Line, number: u16, name: &str)
 }
 
 #[tactic(auto, using(crate::proofs::NameLemmas::label_name_short))]
-fn push_label_fault(line: &mut Line, fault: TcFault)
+fn push_label_fault(line: &mut LineBuffer, fault: TcFault)
     requires { length line.old.items + 18 ≤ 256 }
     ensures items { line.new.items ≡ line.old.items ++ label_fault_text fault }
     ensures len { length line.new.items ≤ length line.old.items + 18 }
@@ -32,7 +32,7 @@ fn push_label_fault(line: &mut Line, fault: TcFault)
 }
 
 #[tactic(auto, using(crate::proofs::NameLemmas::line_name_short))]
-fn push_line_fault(line: &mut Line, fault: LineFault)
+fn push_line_fault(line: &mut LineBuffer, fault: LineFault)
     requires { length line.old.items + 41 ≤ 256 }
     ensures items { line.new.items ≡ line.old.items ++ line_fault_text fault }
     ensures len { length line.new.items ≤ length line.old.items + 41 }
@@ -44,7 +44,7 @@ fn push_line_fault(line: &mut Line, fault: LineFault)
     }
 }
 
-fn push_list_fault(line: &mut Line, fault: ListFault)
+fn push_list_fault(line: &mut LineBuffer, fault: ListFault)
     requires { length line.old.items + 58 ≤ 256 }
     ensures items { line.new.items ≡ line.old.items ++ list_fault_text fault }
     ensures len { length line.new.items ≤ length line.old.items + 58 }
@@ -61,7 +61,7 @@ fn push_list_fault(line: &mut Line, fault: ListFault)
 }
 
 // The detail of a refusal, if there is one.
-fn push_detail(line: &mut Line, at: At)
+fn push_detail(line: &mut LineBuffer, at: At)
     requires { length line.old.items + 20 ≤ 256 }
     ensures items { line.new.items ≡ line.old.items ++ detail_text (detail_of at) }
     ensures len { length line.new.items ≤ length line.old.items + 20 }
@@ -86,7 +86,7 @@ fn push_detail(line: &mut Line, at: At)
 }
 
 #[tactic(auto, using(crate::proofs::NameLemmas::refusal_name_short))]
-fn push_refusal(line: &mut Line, refusal: Refusal)
+fn push_refusal(line: &mut LineBuffer, refusal: Refusal)
     requires { length line.old.items + 42 ≤ 256 }
     ensures items { line.new.items ≡ line.old.items ++ refusal_text refusal }
     ensures len { length line.new.items ≤ length line.old.items + 42 }
@@ -95,7 +95,7 @@ fn push_refusal(line: &mut Line, refusal: Refusal)
     push_detail(line, refusal.at);
 }
 
-fn push_stream_fault(line: &mut Line, fault: StreamFault)
+fn push_stream_fault(line: &mut LineBuffer, fault: StreamFault)
     requires { length line.old.items + 15 ≤ 256 }
     ensures items { line.new.items ≡ line.old.items ++ stream_fault_text fault }
     ensures len { length line.new.items ≤ length line.old.items + 15 }
@@ -109,11 +109,11 @@ fn push_stream_fault(line: &mut Line, fault: StreamFault)
 }
 
 // What a fault says.
-fn text_of(fault: Fault) -> Line
+fn text_of(fault: Fault) -> LineBuffer
     ensures items { result.items ≡ text_of fault }
     ensures len { length result.items ≤ 58 }
 {
-    let mut line = Line::new();
+    let mut line = LineBuffer::new();
     match fault {
         Fault::Label(fault) => push_label_fault(&mut line, fault),
         Fault::List(fault) => push_list_fault(&mut line, fault),
@@ -127,7 +127,7 @@ fn text_of(fault: Fault) -> Line
 }
 
 /// The line that says a fault, with its end.
-pub(crate) fn line_of(fault: Fault) -> Line
+pub(crate) fn line_of(fault: Fault) -> LineBuffer
     ensures { result.items ≡ line_of fault }
 {
     let mut line = text_of(fault);

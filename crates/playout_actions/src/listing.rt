@@ -11,7 +11,7 @@ use crate::streams::{InputFault, StreamFault, read_input};
 use edl::{Event, read_from_string};
 use edl_lines::{csv_lines, json_lines};
 use http_office_requests::BODY_LIMIT;
-use playout_words::EventForm;
+use playout_args::EventForm;
 use reports::send;
 use std::alloc::{AllocError, Global};
 use std::io::{Read, Write};

@@ -7,7 +7,7 @@ ghost use Rattle.reports.specs.Output.{AppendsPart};
 
 use crate::fault::Fault;
 use crate::streams::StreamFault;
-use reports::{Line, print_line, push_decimal};
+use reports::{LineBuffer, print_line, push_decimal};
 use std::io::Write;
 use timecode::{Rate, from_timecode};
 
@@ -23,7 +23,7 @@ pub fn print_frame<W: Write>(rate: Rate, label: &str, output: &mut W) -> Result<
         × AppendsPart (W.contents output.old) (W.contents output.new) (decimal n ++ 10 ∷ [])) }
 {
     let frame = from_timecode(label.as_bytes(), rate)?;
-    let mut digits = Line::new();
+    let mut digits = LineBuffer::new();
     push_decimal(&mut digits, frame);
     print_line(output, digits.as_slice())?;
     Ok(())

@@ -10,7 +10,7 @@ use crate::{
     Fault, FaultLines, FaultWriter, Lists, StreamFault, answer_input, check_files, check_input,
     compare_files, count_lines, exit_status, list_input, print_frame, served_status,
 };
-use playout_words::{Action, NoAction, read_words};
+use playout_args::{Action, NoAction, read_words};
 use reports::send;
 use std::alloc::Global;
 use std::io::{Read, Write};

@@ -6,7 +6,7 @@ ghost use Rattle.playout_actions.specs.Tables.{PrintsTable, TableHas, IsTableFau
 use crate::fault::Fault;
 use crate::streams::StreamFault;
 use channel_view_model::{RowStore, Table, TableFault};
-use playout_words::TableName;
+use playout_args::TableName;
 use std::io::Write;
 
 /// The table that a word names.

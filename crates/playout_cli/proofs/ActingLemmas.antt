@@ -8,11 +8,11 @@ use Rattle.channel_plan.specs.declared.refusal.Refusal.{Refusal}
 use Rattle.channel_plan.specs.Refusal.{refused}
 use Rattle.channel_view_model.specs.Centre.{Centre}
 use Rattle.channel_view_model.specs.declared.table.Table.{Table}
-use Rattle.station_tables_schema.specs.Rows.{StandsFor}
+use Rattle.station_tables_statements.specs.Rows.{StandsFor}
 use Rattle.station_tables.specs.Store.{LeavesFound}
-use Rattle.playout_words.specs.declared.words.Action.{Action}
-use Rattle.playout_words.specs.declared.words.Action.TheVariants as asks
-use Rattle.playout_words.specs.declared.words.NoAction.{NoAction}
+use Rattle.playout_args.specs.declared.words.Action.{Action}
+use Rattle.playout_args.specs.declared.words.Action.TheVariants as asks
+use Rattle.playout_args.specs.declared.words.NoAction.{NoAction}
 use Rattle.playout_actions.specs.Fault.{line_of}
 use Rattle.playout_actions.specs.Named.{Holds as Gives}
 use Rattle.playout_actions.specs.Office.{Office, Concludes, DoesAsked}

@@ -5,12 +5,12 @@ use Rattle.std.proofs.lemmas.Bool.{eqb-true}
 use Rattle.sqlite.specs.State.{State}
 use Rattle.channel_plan.specs.declared.plan.PlanRow.{PlanRow}
 use Rattle.channel_view_model.specs.Centre.{Centre}
-use Rattle.station_tables_texts.specs.Schema.{no_schema}
-use Rattle.station_tables_schema.specs.Rows.{BeginsBare, Stands, StandsFor, plan_in_order}
-use Rattle.station_tables_commits.specs.declared.opening.Version.{Version}
-use Rattle.station_tables_commits.specs.Opening.{HasTablesOf, rows_at}
+use Rattle.station_tables_records.specs.Schema.{no_schema}
+use Rattle.station_tables_statements.specs.Rows.{BeginsBare, Stands, StandsFor, plan_in_order}
+use Rattle.station_tables.specs.declared.finding.Version.{Version}
+use Rattle.station_tables.specs.Opening.{HasTablesOf, rows_at}
 use Rattle.station_tables.specs.Store.{LeavesFound}
-use Rattle.station_tables_commits.specs.Tables.{LeavesDatabase}
+use Rattle.station_tables.specs.Tables.{LeavesDatabase}
 use Rattle.playout_cli.specs.Kept.{BeginsWith}
 
 -- with no plan row the database is that of a centre

@@ -11,13 +11,13 @@ use Rattle.channel_plan.specs.Refusal.{refused}
 use Rattle.channel_plan.specs.Plan.{is_plan}
 use Rattle.channel_view_model.specs.Centre.{Centre}
 use Rattle.http_office.specs.declared.serving.End.{End}
-use Rattle.station_tables_schema.specs.Rows.{StandsFor}
+use Rattle.station_tables_statements.specs.Rows.{StandsFor}
 use Rattle.station_tables.specs.Store.{LeavesFound}
-use Rattle.station_tables_commits.specs.Tables.{MayLeave}
-use Rattle.playout_words.specs.Words.{AreRead}
-use Rattle.playout_words.specs.declared.words.Action.{Action}
-use Rattle.playout_words.specs.declared.words.Action.TheVariants as asks
-use Rattle.playout_words.specs.declared.words.NoAction.{NoAction}
+use Rattle.station_tables.specs.Tables.{MayLeave}
+use Rattle.playout_args.specs.Words.{AreRead}
+use Rattle.playout_args.specs.declared.words.Action.{Action}
+use Rattle.playout_args.specs.declared.words.Action.TheVariants as asks
+use Rattle.playout_args.specs.declared.words.NoAction.{NoAction}
 use Rattle.playout_actions.specs.Answering.{ArePlanTexts, RefusesPlan, ServesOn}
 use Rattle.playout_actions.specs.Fault.{line_of}
 use Rattle.playout_actions.specs.Named.{Holds as Gives}

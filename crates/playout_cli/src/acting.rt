@@ -15,7 +15,7 @@ use channel_plan::PlanRow;
 use playout_actions::{
     Fault, FaultLines, FaultWriter, Lists, do_asked, exit_status, plan_of, served_status, table_of,
 };
-use playout_words::{Action, read_words};
+use playout_args::{Action, read_words};
 use sqlite::{Alter, Connection, File, FileStore};
 use sqlite_trees::store::Store;
 use std::alloc::Global;

@@ -7,8 +7,8 @@ ghost use Rattle.channel_plan.specs.declared.refusal.Refusal.{Refusal};
 ghost use Rattle.playout_actions.specs.Telling.{has_told};
 ghost use Rattle.playout_peers.specs.Wire.{unknown};
 ghost use Rattle.playout_peers.specs.Peers.{ServesPeers};
-ghost use Rattle.station_tables_schema.specs.Rows.{StandsFor};
-ghost use Rattle.station_tables_commits.specs.Tables.{MayLeave};
+ghost use Rattle.station_tables_statements.specs.Rows.{StandsFor};
+ghost use Rattle.station_tables.specs.Tables.{MayLeave};
 ghost use Rattle.station_tables.specs.Store.{LeavesFound};
 ghost use Rattle.playout_cli.specs.Kept.{BeginsWith};
 ghost use Rattle.station_tables.specs.Opens.{RefusesToOpen};
@@ -17,21 +17,21 @@ ghost use Rattle.playout_cli.specs.Serving.{text_of_serving, line_of_serving};
 ghost use Rattle.reports.specs.Output.{AppendsPart};
 
 use crate::machine::Ports;
+use channel_view::RecentDays;
 use channel_view_model::RowStore;
-use channel_view_recent::RecentDays;
 use playout_actions::{Fault, FaultLines, FaultWriter, StreamFault};
 use playout_peers::{Door, InTurn, Limits, serve_peers};
-use reports::{Line, WriteFault, print_line, push, push_decimal};
+use reports::{LineBuffer, WriteFault, print_line, push, push_decimal};
 use sqlite::{Alter, Connection};
 use station_tables::SqlRows;
 use std::alloc::Global;
 use std::io::Write;
 
 // Where connections are served.
-fn text_of_serving(port: u16) -> Line
+fn text_of_serving(port: u16) -> LineBuffer
     ensures { result.items ≡ text_of_serving port }
 {
-    let mut line = Line::new();
+    let mut line = LineBuffer::new();
     push(&mut line, b"serving 127.0.0.1:");
     push_decimal(&mut line, port);
     line

@@ -7,7 +7,7 @@ ghost use Rattle.channel_plan.specs.declared.refusal.Refusal.{Refusal};
 ghost use Rattle.channel_plan.specs.Refusal.{refused};
 ghost use Rattle.channel_view_model.specs.Centre.{Centre};
 ghost use Rattle.playout_actions.specs.Tables.{PrintsTable, TableHas};
-ghost use Rattle.station_tables_schema.specs.Rows.{StandsFor};
+ghost use Rattle.station_tables_statements.specs.Rows.{StandsFor};
 ghost use Rattle.station_tables.specs.Store.{LeavesFound};
 ghost use Rattle.playout_cli.specs.Kept.{BeginsWith};
 ghost use Rattle.station_tables.specs.Opens.{RefusesToOpen};

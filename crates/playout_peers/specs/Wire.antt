@@ -19,9 +19,9 @@ LeavesAll old new = (m : ℕ) → new m ≡ old m
 abbrev pub LeavesOthers : ℕ → (ℕ → Wire) → (ℕ → Wire) → Type 0
 LeavesOthers n old new = (m : ℕ) → m ≢ n → new m ≡ old m
 
--- a read of it, into this room, and a write to it, of these bytes
+-- a read of it, into this buffer, and a write to it, of these bytes
 abbrev pub IsRead : {E : Type 0} → Wire → Wire → Result ℕ E → List ℕ → Type 0
-IsRead old new result room = ReadConsumes old.unread new.unread result room × (new.written ≡ old.written)
+IsRead old new result buffer = ReadConsumes old.unread new.unread result buffer × (new.written ≡ old.written)
 
 abbrev pub IsWritten : {E : Type 0} → Wire → Wire → Result ℕ E → List ℕ → Type 0
 IsWritten old new result bytes = WriteAppends old.written new.written result bytes × (new.unread ≡ old.unread)

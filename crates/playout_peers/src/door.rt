@@ -42,9 +42,9 @@ pub trait Door {
         ensures wires { LeavesAll (wire self.old) (wire self.new) };
 
     /// Reads what has come. `WouldBlock` says that nothing has.
-    fn read(&mut self, seat: Seat, room: &mut [u8]) -> io::Result<usize>
-        ensures bound { ReadsAtMost result room.new }
-        ensures bytes { IsRead (wire self.old seat.number) (wire self.new seat.number) result room.new }
+    fn read(&mut self, seat: Seat, buffer: &mut [u8]) -> io::Result<usize>
+        ensures bound { ReadsAtMost result buffer.new }
+        ensures bytes { IsRead (wire self.old seat.number) (wire self.new seat.number) result buffer.new }
         ensures others { LeavesOthers seat.number (wire self.old) (wire self.new) }
         ensures accepted { accepted self.new ≡ accepted self.old };
 

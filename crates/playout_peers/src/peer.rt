@@ -105,16 +105,16 @@ fn is_later(error: &io::Error) -> bool {
 
 // Makes one read, and puts what came behind what is pending. A connection has as many as it wants: one that stalls ends
 // by its limit of time.
-fn hear<D: Door>(door: &mut D, seat: Seat, room: &mut [u8], pending: &mut Vec<u8>) -> ReadOutcome
-    requires { 0 < length room.old }
+fn hear<D: Door>(door: &mut D, seat: Seat, buffer: &mut [u8], pending: &mut Vec<u8>) -> ReadOutcome
+    requires { 0 < length buffer.old }
     ensures heard { Heard (D.wire door.old seat.number) (D.wire door.new seat.number) pending.old.items
         pending.new.items result }
     ensures others { LeavesOthers seat.number (D.wire door.old) (D.wire door.new) }
     ensures accepted { D.accepted door.new ≡ D.accepted door.old }
 {
-    match door.read(seat, room) {
+    match door.read(seat, buffer) {
         Ok(0) => ReadOutcome::Closed,
-        Ok(count) => match pending.extend_from_slice(&room[..count]) {
+        Ok(count) => match pending.extend_from_slice(&buffer[..count]) {
             Ok(()) => ReadOutcome::More,
             Err(_) => ReadOutcome::Starved,
         },
@@ -192,11 +192,11 @@ fn stays(connection: Connection, task: Task, then: Then) -> Turned
 fn listen<D: Door>(
     alloc: Global,
     door: &mut D,
-    room: &mut [u8],
+    buffer: &mut [u8],
     is_late: bool,
     connection: Connection,
 ) -> Turned
-    requires room { 0 < length room.old }
+    requires buffer { 0 < length buffer.old }
     requires waits { IsPartial connection.pending.items }
     ensures comes { (pieces : List Piece) (answers : List Answer) (first : Wire) →
         IsOpen pieces answers first (D.wire door.old connection.seat.number) connection.pending.items Task.Reads →
@@ -209,7 +209,7 @@ fn listen<D: Door>(
         mut pending,
         since,
     } = connection;
-    match hear(door, seat, room, &mut pending) {
+    match hear(door, seat, buffer, &mut pending) {
         ReadOutcome::More => stays(
             Connection {
                 seat,
@@ -250,11 +250,11 @@ fn converse<S: RowStore, D: Door>(
     routes: &Routes,
     store: &mut S,
     door: &mut D,
-    room: &mut [u8],
+    buffer: &mut [u8],
     is_late: bool,
     connection: Connection,
 ) -> Turned
-    requires { 0 < length room.old }
+    requires { 0 < length buffer.old }
     ensures did { TakesTurn S.is_clean S.stands_for S.may_leave S.leaves_sets store.old store.new
         (D.wire door.old connection.seat.number) (D.wire door.new connection.seat.number)
         (record { connection = connection; task = Task.Reads }) result }
@@ -273,7 +273,7 @@ fn converse<S: RowStore, D: Door>(
         since,
     };
     match front {
-        Front::Waits => listen(alloc, door, room, is_late, connection),
+        Front::Waits => listen(alloc, door, buffer, is_late, connection),
         Front::Answered(answer) => stays(connection, Task::Answers(answer, 0), Then::GoesOn),
         Front::Last(answer) => stays(connection, Task::Refuses(answer, 0), Then::GoesOn),
     }
@@ -357,11 +357,11 @@ pub(crate) fn take_turn<S: RowStore, D: Door>(
     routes: &Routes,
     store: &mut S,
     door: &mut D,
-    room: &mut [u8],
+    buffer: &mut [u8],
     is_late: bool,
     peer: Peer,
 ) -> Turned
-    requires { 0 < length room.old }
+    requires { 0 < length buffer.old }
     ensures did { TakesTurn S.is_clean S.stands_for S.may_leave S.leaves_sets store.old store.new
         (D.wire door.old peer.connection.seat.number) (D.wire door.new peer.connection.seat.number) peer result }
     ensures others { LeavesOthers peer.connection.seat.number (D.wire door.old) (D.wire door.new) }
@@ -369,7 +369,7 @@ pub(crate) fn take_turn<S: RowStore, D: Door>(
 {
     let Peer { connection, task } = peer;
     match task {
-        Task::Reads => converse(alloc, routes, store, door, room, is_late, connection),
+        Task::Reads => converse(alloc, routes, store, door, buffer, is_late, connection),
         Task::Answers(answer, sent) => write_answer(door, is_late, connection, answer, sent),
         Task::Refuses(answer, sent) => write_refusal(door, is_late, connection, answer, sent),
         Task::Starves(sent) => write_farewell(door, is_late, connection, sent),

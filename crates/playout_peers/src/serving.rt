@@ -42,7 +42,7 @@ pub struct Limits {
 struct Means {
     alloc: Global,
     routes: Routes,
-    room: Vec<u8>,
+    buffer: Vec<u8>,
 }
 
 /// The connections that are open, by their places, and what has come of the others.
@@ -61,14 +61,14 @@ struct Peers {
 
 impl Means {
     fn new(alloc: Global) -> Result<Means, Unavailable>
-        ensures { IfOk result (λ means. 0 < length means.room.items) }
+        ensures { IfOk result (λ means. 0 < length means.buffer.items) }
     {
         let routes = Routes::new(alloc)?;
         match vec![in alloc; 0; READ_SIZE] {
-            Ok(room) => Ok(Means {
+            Ok(buffer) => Ok(Means {
                 alloc,
                 routes,
-                room,
+                buffer,
             }),
             Err(_) => Err(Unavailable),
         }
@@ -194,13 +194,13 @@ fn step_at<S: RowStore, D: Door, E: FaultWriter>(
     idle: u16,
     faults: &mut FaultLines<E>,
 ) -> Then
-    requires room { 0 < length means.old.room.items }
+    requires buffer { 0 < length means.old.buffer.items }
     requires count { peers.old.ended < 2 ^ 64 - 1 }
     ensures goes_on { GoesOn S.is_clean S.stands_for S.may_leave S.leaves_sets
         store.old store.new (D.wire door.old) (D.wire door.new)
         (D.accepted door.old) (D.accepted door.new) peers.old peers.new
         (has_told E.contents faults.old) (has_told E.contents faults.new) }
-    ensures room { length means.new.room.items ≡ length means.old.room.items }
+    ensures buffer { length means.new.buffer.items ≡ length means.old.buffer.items }
     ensures count { peers.new.ended ≤ peers.old.ended + 1 }
     ensures stays { result ≡ Then.GoesOn → peers.new.ended ≡ peers.old.ended }
 {
@@ -216,7 +216,7 @@ fn step_at<S: RowStore, D: Door, E: FaultWriter>(
         &means.routes,
         store,
         door,
-        &mut means.room,
+        &mut means.buffer,
         is_late,
         peer,
     ) {
@@ -332,13 +332,13 @@ fn take_turn_at<S: RowStore, D: Door, E: FaultWriter>(
     idle: u16,
     faults: &mut FaultLines<E>,
 )
-    requires room { 0 < length means.old.room.items }
+    requires buffer { 0 < length means.old.buffer.items }
     requires count { peers.old.ended < 2 ^ 64 - 1 }
     ensures goes_on { GoesOn S.is_clean S.stands_for S.may_leave S.leaves_sets
         store.old store.new (D.wire door.old) (D.wire door.new)
         (D.accepted door.old) (D.accepted door.new) peers.old peers.new
         (has_told E.contents faults.old) (has_told E.contents faults.new) }
-    ensures room { length means.new.room.items ≡ length means.old.room.items }
+    ensures buffer { length means.new.buffer.items ≡ length means.old.buffer.items }
     ensures count { peers.new.ended ≤ peers.old.ended + 1 }
 {
     for _ in 0..STEPS {
@@ -364,13 +364,13 @@ fn go_round<S: RowStore, D: Door, E: FaultWriter>(
     idle: u16,
     faults: &mut FaultLines<E>,
 ) -> bool
-    requires room { 0 < length means.old.room.items }
+    requires buffer { 0 < length means.old.buffer.items }
     requires count { peers.old.ended < 2 ^ 64 - 1 }
     ensures goes_on { GoesOn S.is_clean S.stands_for S.may_leave S.leaves_sets
         store.old store.new (D.wire door.old) (D.wire door.new)
         (D.accepted door.old) (D.accepted door.new) peers.old peers.new
         (has_told E.contents faults.old) (has_told E.contents faults.new) }
-    ensures room { length means.new.room.items ≡ length means.old.room.items }
+    ensures buffer { length means.new.buffer.items ≡ length means.old.buffer.items }
     ensures count { peers.new.ended ≤ peers.old.ended + 1 }
 {
     answer_door(means.alloc, door, peers, rota, faults);
@@ -401,7 +401,7 @@ fn serve_rounds<S: RowStore, D: Door, E: FaultWriter>(
     limits: Limits,
     faults: &mut FaultLines<E>,
 ) -> bool
-    requires room { 0 < length means.old.room.items }
+    requires buffer { 0 < length means.old.buffer.items }
     requires places { (i : ℕ) → get_or peers.old.places.items i None ≡ None }
     requires none { peers.old.ended ≡ 0 }
     requires quiet { peers.old.is_quiet ≡ true }

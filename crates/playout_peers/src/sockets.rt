@@ -164,9 +164,9 @@ impl<C: Clock> Door for Sockets<'_, C> {
         Ok(Some(number))
     }
 
-    fn read(&mut self, seat: Seat, room: &mut [u8]) -> io::Result<usize> {
+    fn read(&mut self, seat: Seat, buffer: &mut [u8]) -> io::Result<usize> {
         let mut stream = self.stream_at(seat)?;
-        stream.read(room)
+        stream.read(buffer)
     }
 
     fn write(&mut self, seat: Seat, bytes: &[u8]) -> io::Result<usize> {

@@ -128,9 +128,9 @@ impl Door for InTurn<'_> {
         Ok(Some(number))
     }
 
-    fn read(&mut self, seat: Seat, room: &mut [u8]) -> io::Result<usize> {
+    fn read(&mut self, seat: Seat, buffer: &mut [u8]) -> io::Result<usize> {
         let mut stream = self.stream_at(seat)?;
-        waited_for(stream.read(room))
+        waited_for(stream.read(buffer))
     }
 
     fn write(&mut self, seat: Seat, bytes: &[u8]) -> io::Result<usize> {

@@ -1,8 +1,8 @@
 -- The match table: a line for each run of a sealed day, by position, and one that says how many frames have each
 -- status.
-use Rattle.std.specs.Prelude.{ℕ, ◌+◌, List, [], ◌∷◌, ◌++◌, Bool, true, false, filter, sum_by, count_by, codes, decimal}
-use Rattle.std.specs.Prelude.{if◌then◌else◌}
-use Rattle.std.specs.List.{flat_map}
+use Rattle.std.specs.Prelude.{ℕ, ◌-◌, List, ◌++◌, Bool, true, false, not, ◌||◌, ◌==◌, length, map, filter, drop}
+use Rattle.std.specs.Prelude.{slice_index_or, sum_by, count_by, codes, decimal}
+use Rattle.std.specs.List.{flat_map, prefix_len, range_with_len}
 use Rattle.timecode.specs.Label.{label_text}
 use Rattle.channel_plan.specs.declared.plan.PlanRow.{PlanRow}
 use Rattle.playlist_core.specs.Day.{label_at}
@@ -46,20 +46,24 @@ match_end runs = counts_line (λ s. frames_with s runs)
 abbrev pub match_text : PlanRow → List Run → List ℕ
 match_text plan runs = flat_map (run_line plan) runs ++ match_end runs
 
--- a frame in front of the runs behind it: it joins the first of them, where that has its status, else it is a run
-abbrev pub joined : ℕ → Status → List Run → List Run
-joined at s [] = record { position = at; frames = 1; status = s } ∷ []
-joined at s (run ∷ runs) =
-    if is_status s run.status then record { position = at; frames = run.frames + 1; status = s } ∷ runs
-    else record { position = at; frames = 1; status = s } ∷ run ∷ runs
+-- the status of a frame of the day
+abbrev pub status_at : List Status → ℕ → Status
+status_at statuses p = slice_index_or statuses p Missed
 
--- the runs of the statuses of the frames from one on
-abbrev pub runs_from : ℕ → List Status → List Run
-runs_from at [] = []
-runs_from at (s ∷ statuses) = joined at s (runs_from (at + 1) statuses)
+-- a run begins at the first frame, and at each that has another status than the one before it
+abbrev pub begins_run : List Status → ℕ → Bool
+begins_run statuses p = p == 0 || not (is_status (status_at statuses (p - 1)) (status_at statuses p))
+
+-- and has the frames from there on that have its status
+abbrev pub run_at : List Status → ℕ → Run
+run_at statuses p = record {
+  position = p;
+  frames = prefix_len (is_status (status_at statuses p)) (drop p statuses);
+  status = status_at statuses p;
+}
 
 abbrev pub runs_of : List Status → List Run
-runs_of statuses = runs_from 0 statuses
+runs_of statuses = map (run_at statuses) (filter (begins_run statuses) (range_with_len 0 (length statuses)))
 
 -- how many frames have a status
 abbrev pub status_frames : Status → List Status → ℕ

@@ -18,10 +18,6 @@ right_in width text = blanks (width - length text) ++ text
 abbrev pub number_in : ℕ → ℕ → List ℕ
 number_in width n = right_in width (decimal n)
 
--- a number in at least so many digits: zeros (48) in front
-abbrev pub digits_in : ℕ → ℕ → List ℕ
-digits_in width n = replicate (width - length (decimal n)) 48 ++ decimal n
-
 -- whether a frame is one of the day, and so has a label
 abbrev pub has_label : Rate → ℕ → Bool
 has_label rate frame = nat_lt frame (day_length rate)

@@ -1,6 +1,7 @@
 -- The plan table: a line for the day, one for each of its items, by position, and one that sums their frames.
 use Rattle.std.specs.Prelude.{ℕ, List, ◌++◌, Bool, length, map, codes, decimal}
 use Rattle.std.specs.List.{flat_map, list_all, sum}
+use Rattle.timecode.specs.Decimal.{in_digits}
 use Rattle.timecode.specs.Label.{label_text, frame_text}
 use Rattle.channel_plan.specs.declared.plan.PlanRow.{PlanRow}
 use Rattle.playlist_core.specs.declared.item.Item.{Item}
@@ -9,7 +10,7 @@ use Rattle.playlist_core.specs.declared.day.DayState.TheVariants.{NotThere, Open
 use Rattle.playlist_core.specs.Day.{Day, label_at}
 use Rattle.playlist_core.specs.Item.{kind_text}
 use Rattle.playlist_core.specs.Source.{source_reel}
-use Rattle.reports.specs.Fields.{left_in, number_in, digits_in, has_label}
+use Rattle.reports.specs.Fields.{left_in, number_in, has_label}
 
 -- whether the day is sealed
 abbrev pub day_state : DayState → List ℕ
@@ -27,7 +28,7 @@ item_line plan i =
     number_in 4 i.n
     ++ (codes " " ++ (label_text (label_at plan i.pos) ++ (codes " " ++ (number_in 7 i.frames ++ (codes " "
     ++ (left_in 4 (kind_text i.kind)
-    ++ (codes " " ++ (digits_in 3 i.mix ++ (codes " " ++ (left_in 8 (source_reel i.src) ++ (codes " "
+    ++ (codes " " ++ (in_digits 3 i.mix ++ (codes " " ++ (left_in 8 (source_reel i.src) ++ (codes " "
     ++ (frame_text plan.rate i.src_first ++ codes "\n"))))))))))))
 
 -- how many frames these items have

@@ -10,7 +10,7 @@ ghost use Rattle.asrun_match.specs.Status.{statuses_of};
 ghost use Rattle.reports.specs.Asrun.{frames_with as frames_in, match_end, match_text, run_line};
 ghost use Rattle.reports.specs.Asrun.{runs_of, status_table, status_text};
 
-use crate::{Line, WriteFault, push, push_decimal, send};
+use crate::{LineBuffer, WriteFault, push, push_decimal, send};
 use asrun_match::{AiredDay, Run, Status, reconcile};
 use channel_plan::PlanRow;
 use playlist_core::{DayPlan, label_at};
@@ -18,7 +18,7 @@ use std::alloc::Global;
 use std::io::Write;
 use timecode::Unavailable;
 
-fn push_status(line: &mut Line, status: Status)
+fn push_status(line: &mut LineBuffer, status: Status)
     requires { length line.old.items + 6 ≤ 256 }
     ensures items { line.new.items ≡ line.old.items ++ status_text status }
     ensures len { length line.new.items ≤ length line.old.items + 6 }
@@ -31,10 +31,10 @@ fn push_status(line: &mut Line, status: Status)
     }
 }
 
-fn run_line(plan: &PlanRow, run: &Run) -> Line
+fn run_line(plan: &PlanRow, run: &Run) -> LineBuffer
     ensures { result.items ≡ run_line plan.now run.now }
 {
-    let mut line = Line::new();
+    let mut line = LineBuffer::new();
     push(&mut line, &label_at(plan, run.position).bytes());
     push(&mut line, b" ");
     push_decimal(&mut line, run.frames);
@@ -81,10 +81,10 @@ fn frames_with(status: Status, runs: &[Run]) -> u128
     frames
 }
 
-fn end_line(runs: &[Run]) -> Line
+fn end_line(runs: &[Run]) -> LineBuffer
     ensures { result.items ≡ match_end runs.now }
 {
-    let mut line = Line::new();
+    let mut line = LineBuffer::new();
     push(&mut line, b"OK ");
     push_decimal(&mut line, frames_with(Status::Ok, runs));
     push(&mut line, b" SLIP ");

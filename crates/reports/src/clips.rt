@@ -9,12 +9,12 @@ ghost use Rattle.reports.specs.Clips.{state_field, clip_line, clips_end, clip_te
 use crate::columns::{push_left, push_number};
 use crate::fault::RowFault;
 use crate::fields::{push_clip_reel, push_label, push_title, push_umid};
-use crate::{Line, WriteFault, push, push_decimal, send};
+use crate::{LineBuffer, WriteFault, push, push_decimal, send};
 use std::io::Write;
 use timecode::Rate;
 use vault_core::Clip;
 
-fn push_state(line: &mut Line, retired: bool)
+fn push_state(line: &mut LineBuffer, retired: bool)
     requires { length line.old.items + 14 ≤ 256 }
     ensures items { line.new.items ≡ line.old.items ++ state_field retired }
     ensures len { length line.new.items ≤ length line.old.items + 14 }
@@ -26,12 +26,12 @@ fn push_state(line: &mut Line, retired: bool)
     }
 }
 
-fn clip_line(rate: Rate, clip: &Clip) -> Result<Line, RowFault>
+fn clip_line(rate: Rate, clip: &Clip) -> Result<LineBuffer, RowFault>
     ensures variant { IsOk result ↔ (has_label rate clip.now.src_first ≡ true) }
     ensures ok { IfOk result (λ line. line.items ≡ clip_line rate clip.now) }
     ensures err { IfErr result (λ e. e ≡ RowFault.NoLabel) }
 {
-    let mut line = Line::new();
+    let mut line = LineBuffer::new();
     push_clip_reel(&mut line, clip.n);
     push(&mut line, b" ");
     push_state(&mut line, clip.retired);
@@ -64,10 +64,10 @@ pub fn write_clip<W: Write>(output: &mut W, rate: Rate, clip: &Clip) -> Result<(
     Ok(())
 }
 
-fn end_line(count: usize) -> Line
+fn end_line(count: usize) -> LineBuffer
     ensures { result.items ≡ clips_end count }
 {
-    let mut line = Line::new();
+    let mut line = LineBuffer::new();
     push(&mut line, b"CLIPS ");
     push_decimal(&mut line, count);
     push(&mut line, b"\n");

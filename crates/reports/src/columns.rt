@@ -1,12 +1,13 @@
 //! Fields that stand in columns of a line.
 ghost use Rattle.std.specs.Prelude.{◌≡◌, ◌≤◌, ◌+◌, ◌++◌, length};
-ghost use Rattle.reports.specs.Fields.{left_in, right_in, number_in, digits_in};
+ghost use Rattle.timecode.specs.Decimal.{in_digits};
+ghost use Rattle.reports.specs.Fields.{left_in, right_in, number_in};
 
-use crate::{Line, push, push_copies};
+use crate::{LineBuffer, push, push_copies};
 use itoa::{Buffer, Integer};
 
 /// A text at the left of so many places.
-pub(crate) fn push_left(line: &mut Line, width: usize, text: &[u8])
+pub(crate) fn push_left(line: &mut LineBuffer, width: usize, text: &[u8])
     requires { length line.old.items + width + length text.now ≤ 256 }
     ensures items { line.new.items ≡ line.old.items ++ left_in width text.now }
     ensures len { length line.new.items ≤ length line.old.items + width + length text.now }
@@ -16,7 +17,7 @@ pub(crate) fn push_left(line: &mut Line, width: usize, text: &[u8])
 }
 
 // A text at their right.
-fn push_right(line: &mut Line, width: usize, text: &[u8])
+fn push_right(line: &mut LineBuffer, width: usize, text: &[u8])
     requires { length line.old.items + width + length text.now ≤ 256 }
     ensures items { line.new.items ≡ line.old.items ++ right_in width text.now }
     ensures len { length line.new.items ≤ length line.old.items + width + length text.now }
@@ -26,7 +27,7 @@ fn push_right(line: &mut Line, width: usize, text: &[u8])
 }
 
 /// A number at the right of so many places.
-pub(crate) fn push_number(line: &mut Line, width: usize, number: u32)
+pub(crate) fn push_number(line: &mut LineBuffer, width: usize, number: u32)
     requires { length line.old.items + width + 10 ≤ 256 }
     ensures items { line.new.items ≡ line.old.items ++ number_in width number }
     ensures len { length line.new.items ≤ length line.old.items + width + 10 }
@@ -36,7 +37,7 @@ pub(crate) fn push_number(line: &mut Line, width: usize, number: u32)
 }
 
 /// A count at the right of so many places.
-pub(crate) fn push_count<I: Integer>(line: &mut Line, width: usize, count: I)
+pub(crate) fn push_count<I: Integer>(line: &mut LineBuffer, width: usize, count: I)
     requires { length line.old.items + width + I.MAX_STR_LEN ≤ 256 }
     ensures items { line.new.items ≡ line.old.items ++ right_in width (I.text count) }
     ensures len { length line.new.items ≤ length line.old.items + width + I.MAX_STR_LEN }
@@ -46,9 +47,9 @@ pub(crate) fn push_count<I: Integer>(line: &mut Line, width: usize, count: I)
 }
 
 /// A number in at least so many digits.
-pub(crate) fn push_digits(line: &mut Line, width: usize, number: u32)
+pub(crate) fn push_digits(line: &mut LineBuffer, width: usize, number: u32)
     requires { length line.old.items + width + 10 ≤ 256 }
-    ensures items { line.new.items ≡ line.old.items ++ digits_in width number }
+    ensures items { line.new.items ≡ line.old.items ++ in_digits width number }
     ensures len { length line.new.items ≤ length line.old.items + width + 10 }
 {
     let mut buffer = Buffer::new();

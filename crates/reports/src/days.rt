@@ -9,7 +9,7 @@ ghost use Rattle.reports.specs.Days.{batches_of, counts_line, day_counts, day_li
 
 use crate::columns::{push_count, push_left, push_number};
 use crate::playlist::frames_of;
-use crate::{Line, WriteFault, push, push_decimal, send};
+use crate::{LineBuffer, WriteFault, push, push_decimal, send};
 use asrun_match::DayAsRun;
 use playlist_core::{DayPlan, DayState};
 use std::io::Write;
@@ -52,10 +52,10 @@ fn state_text(state: DayState) -> &'static [u8]
 }
 
 #[tactic(auto, using(crate::proofs::LengthLemmas::day_state_short))]
-fn counts_line(day: DayCounts) -> Line
+fn counts_line(day: DayCounts) -> LineBuffer
     ensures { result.items ≡ counts_line day }
 {
-    let mut line = Line::new();
+    let mut line = LineBuffer::new();
     push_number(&mut line, 5, day.number);
     push(&mut line, b" ");
     push_left(&mut line, 6, state_text(day.state));
@@ -77,10 +77,10 @@ pub fn write_day<W: Write>(output: &mut W, day: DayCounts) -> Result<(), WriteFa
     send(output, counts_line(day).as_slice())
 }
 
-fn end_line(count: usize) -> Line
+fn end_line(count: usize) -> LineBuffer
     ensures { result.items ≡ days_end count }
 {
-    let mut line = Line::new();
+    let mut line = LineBuffer::new();
     push(&mut line, b"DAYS ");
     push_decimal(&mut line, count);
     push(&mut line, b"\n");

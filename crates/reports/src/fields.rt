@@ -9,13 +9,13 @@ ghost use Rattle.reports.specs.Offers.{window_field};
 
 use crate::columns::push_digits;
 use crate::fault::RowFault;
-use crate::{Line, push};
+use crate::{LineBuffer, push};
 use timecode::{Rate, to_timecode};
 use umid::Umid;
 use vault_core::{Title, Window};
 
 /// The reel of a clip.
-pub(crate) fn push_clip_reel(line: &mut Line, number: u32)
+pub(crate) fn push_clip_reel(line: &mut LineBuffer, number: u32)
     requires { length line.old.items + 18 ≤ 256 }
     ensures items { line.new.items ≡ line.old.items ++ clip_reel number }
     ensures len { length line.new.items ≤ length line.old.items + 18 }
@@ -25,7 +25,7 @@ pub(crate) fn push_clip_reel(line: &mut Line, number: u32)
 }
 
 /// The label of a frame. One behind the day's last has none.
-pub(crate) fn push_label(line: &mut Line, rate: Rate, frame: u32) -> Result<(), RowFault>
+pub(crate) fn push_label(line: &mut LineBuffer, rate: Rate, frame: u32) -> Result<(), RowFault>
     requires { length line.old.items + 11 ≤ 256 }
     ensures variant { IsOk result ↔ (has_label rate frame ≡ true) }
     ensures ok { OnOk result (line.new.items ≡ line.old.items ++ frame_text rate frame) }
@@ -40,7 +40,7 @@ pub(crate) fn push_label(line: &mut Line, rate: Rate, frame: u32) -> Result<(), 
 }
 
 /// A UMID in hexadecimal digits.
-pub(crate) fn push_umid(line: &mut Line, umid: Umid)
+pub(crate) fn push_umid(line: &mut LineBuffer, umid: Umid)
     requires { length line.old.items + 64 ≤ 256 }
     ensures items { line.new.items ≡ line.old.items ++ encode_lower (basic_umid umid) }
     ensures len { length line.new.items ≤ length line.old.items + 64 }
@@ -52,7 +52,7 @@ pub(crate) fn push_umid(line: &mut Line, umid: Umid)
 
 /// A title.
 #[tactic(auto, using(crate::proofs::LengthLemmas::title_short))]
-pub(crate) fn push_title(line: &mut Line, title: &Title)
+pub(crate) fn push_title(line: &mut LineBuffer, title: &Title)
     requires { length line.old.items + 60 ≤ 256 }
     ensures items { line.new.items ≡ line.old.items ++ title.now }
     ensures len { length line.new.items ≤ length line.old.items + 60 }
@@ -63,7 +63,7 @@ pub(crate) fn push_title(line: &mut Line, title: &Title)
 
 /// The window of a lent clip, where it has one, behind a blank. It stands behind the state, and a line without one has
 /// the bytes that it had before there were windows: for who reads them by columns.
-pub(crate) fn push_window(line: &mut Line, window: Option<Window>)
+pub(crate) fn push_window(line: &mut LineBuffer, window: Option<Window>)
     requires { length line.old.items + 32 ≤ 256 }
     ensures items { line.new.items ≡ line.old.items ++ window_field window }
     ensures len { length line.new.items ≤ length line.old.items + 32 }

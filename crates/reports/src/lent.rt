@@ -11,12 +11,12 @@ use crate::columns::{push_digits, push_left, push_number};
 use crate::fault::RowFault;
 use crate::fields::{push_label, push_title, push_umid, push_window};
 use crate::offers::state_of;
-use crate::{Line, WriteFault, push, push_decimal, send};
+use crate::{LineBuffer, WriteFault, push, push_decimal, send};
 use grant_core::Grant;
 use std::io::Write;
 
 /// The reel of a lent clip.
-pub(crate) fn push_lent_reel(line: &mut Line, owner: u16, number: u16)
+pub(crate) fn push_lent_reel(line: &mut LineBuffer, owner: u16, number: u16)
     requires { length line.old.items + 28 ≤ 256 }
     ensures items { line.new.items ≡ line.old.items ++ lent_reel owner number }
     ensures len { length line.new.items ≤ length line.old.items + 28 }
@@ -27,13 +27,13 @@ pub(crate) fn push_lent_reel(line: &mut Line, owner: u16, number: u16)
 }
 
 #[tactic(auto, using(crate::proofs::LengthLemmas::state_short, crate::proofs::LengthLemmas::rate_short))]
-fn lent_line(grant: &Grant) -> Result<Line, RowFault>
+fn lent_line(grant: &Grant) -> Result<LineBuffer, RowFault>
     ensures variant { IsOk result ↔ (has_label grant.now.offer.rate grant.now.offer.src_first ≡ true) }
     ensures ok { IfOk result (λ line. line.items ≡ lent_line grant.now) }
     ensures err { IfErr result (λ e. e ≡ RowFault.NoLabel) }
 {
     let offer = grant.offer;
-    let mut line = Line::new();
+    let mut line = LineBuffer::new();
     push_lent_reel(&mut line, grant.owner, offer.n);
     push(&mut line, b" ");
     push_left(&mut line, 9, state_of(offer.withdrawn));
@@ -67,10 +67,10 @@ pub fn write_grant<W: Write>(output: &mut W, grant: &Grant) -> Result<(), RowFau
     Ok(())
 }
 
-fn end_line(count: usize) -> Line
+fn end_line(count: usize) -> LineBuffer
     ensures { result.items ≡ lent_end count }
 {
-    let mut line = Line::new();
+    let mut line = LineBuffer::new();
     push(&mut line, b"LENT ");
     push_decimal(&mut line, count);
     push(&mut line, b"\n");

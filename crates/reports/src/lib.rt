@@ -31,7 +31,7 @@ pub use clips::{write_clip, write_clip_lines, write_clips, write_clips_end};
 pub use days::{DayCounts, counts_of, write_day, write_days, write_days_end};
 pub use fault::RowFault;
 pub use lent::{write_grant, write_lent, write_lent_end};
-pub use line::{Line, push, push_copies, push_decimal};
+pub use line::{LineBuffer, push, push_copies, push_decimal};
 pub use offers::{write_offer, write_offer_lines, write_offers, write_offers_end};
 pub use output::{WriteFault, print_line, send};
 pub use playlist::{write_item, write_items, write_plan, write_plan_end, write_plan_head};

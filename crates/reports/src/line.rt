@@ -5,10 +5,10 @@ use arrayvec::ArrayVec;
 use itoa::{Buffer, Integer};
 
 /// A line while it is made, with room for 256 bytes: more than any line of a table has.
-pub type Line = ArrayVec<u8, 256>;
+pub type LineBuffer = ArrayVec<u8, 256>;
 
 /// A text behind the line, which has room for it.
-pub fn push(line: &mut Line, text: &[u8])
+pub fn push(line: &mut LineBuffer, text: &[u8])
     requires { length line.old.items + length text.now ≤ 256 }
     ensures items { line.new.items ≡ line.old.items ++ text.now }
     ensures len { length line.new.items ≡ length line.old.items + length text.now }
@@ -17,7 +17,7 @@ pub fn push(line: &mut Line, text: &[u8])
 }
 
 /// So many copies of a byte behind the line, which has room for them.
-pub fn push_copies(line: &mut Line, count: usize, byte: u8)
+pub fn push_copies(line: &mut LineBuffer, count: usize, byte: u8)
     requires { length line.old.items + count ≤ 256 }
     ensures items { line.new.items ≡ line.old.items ++ replicate count byte }
     ensures len { length line.new.items ≡ length line.old.items + count }
@@ -28,7 +28,7 @@ pub fn push_copies(line: &mut Line, count: usize, byte: u8)
 }
 
 /// A whole number behind the line in decimal. The line has room for the longest of the number's type.
-pub fn push_decimal<I: Integer>(line: &mut Line, number: I)
+pub fn push_decimal<I: Integer>(line: &mut LineBuffer, number: I)
     requires { length line.old.items + I.MAX_STR_LEN ≤ 256 }
     ensures items { line.new.items ≡ line.old.items ++ I.text number }
     ensures len { length line.new.items ≤ length line.old.items + I.MAX_STR_LEN }

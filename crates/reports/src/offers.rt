@@ -7,7 +7,7 @@ ghost use Rattle.reports.specs.Offers.{offer_state, offer_line, offers_end, offe
 
 use crate::columns::push_digits;
 use crate::fields::{push_clip_reel, push_window};
-use crate::{Line, WriteFault, push, push_decimal, send};
+use crate::{LineBuffer, WriteFault, push, push_decimal, send};
 use std::io::Write;
 use vault_core::Offer;
 
@@ -19,10 +19,10 @@ pub(crate) fn state_of(withdrawn: bool) -> &'static [u8]
 }
 
 #[tactic(auto, using(crate::proofs::LengthLemmas::state_short))]
-fn offer_line(offer: &Offer) -> Line
+fn offer_line(offer: &Offer) -> LineBuffer
     ensures { result.items ≡ offer_line offer.now }
 {
-    let mut line = Line::new();
+    let mut line = LineBuffer::new();
     push_digits(&mut line, 4, u32::from(offer.n));
     push(&mut line, b" ");
     push_clip_reel(&mut line, offer.clip);
@@ -43,10 +43,10 @@ pub fn write_offer<W: Write>(output: &mut W, offer: &Offer) -> Result<(), WriteF
     send(output, offer_line(offer).as_slice())
 }
 
-fn end_line(count: usize) -> Line
+fn end_line(count: usize) -> LineBuffer
     ensures { result.items ≡ offers_end count }
 {
-    let mut line = Line::new();
+    let mut line = LineBuffer::new();
     push(&mut line, b"OFFERS ");
     push_decimal(&mut line, count);
     push(&mut line, b"\n");

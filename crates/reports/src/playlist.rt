@@ -14,13 +14,13 @@ use crate::columns::{push_digits, push_left, push_number};
 use crate::fault::RowFault;
 use crate::fields::{push_clip_reel, push_label};
 use crate::lent::push_lent_reel;
-use crate::{Line, WriteFault, push, push_decimal, send};
+use crate::{LineBuffer, WriteFault, push, push_decimal, send};
 use channel_plan::PlanRow;
 use playlist_core::{DayPlan, DayState, EditKind, Item, Source, label_at};
 use std::io::Write;
 
 // Whether a day is open or sealed.
-fn push_state(line: &mut Line, state: DayState)
+fn push_state(line: &mut LineBuffer, state: DayState)
     requires { length line.old.items + 6 ≤ 256 }
     ensures items { line.new.items ≡ line.old.items ++ day_state state }
     ensures len { length line.new.items ≤ length line.old.items + 6 }
@@ -31,10 +31,10 @@ fn push_state(line: &mut Line, state: DayState)
     }
 }
 
-fn head_line(day: &DayPlan) -> Line
+fn head_line(day: &DayPlan) -> LineBuffer
     ensures { result.items ≡ plan_head day.now }
 {
-    let mut line = Line::new();
+    let mut line = LineBuffer::new();
     push(&mut line, b"DAY ");
     push_decimal(&mut line, day.number());
     push(&mut line, b" ");
@@ -51,11 +51,11 @@ pub fn write_plan_head<W: Write>(output: &mut W, day: &DayPlan) -> Result<(), Wr
     send(output, head_line(day).as_slice())
 }
 
-fn kind_text(kind: EditKind) -> Line
+fn kind_text(kind: EditKind) -> LineBuffer
     ensures items { result.items ≡ kind_text kind }
     ensures len { length result.items ≤ 14 }
 {
-    let mut text = Line::new();
+    let mut text = LineBuffer::new();
     match kind {
         EditKind::Cut => push(&mut text, b"C"),
         EditKind::Dissolve => push(&mut text, b"D"),
@@ -67,7 +67,7 @@ fn kind_text(kind: EditKind) -> Line
     text
 }
 
-fn push_kind(line: &mut Line, kind: EditKind)
+fn push_kind(line: &mut LineBuffer, kind: EditKind)
     requires { length line.old.items + 18 ≤ 256 }
     ensures items { line.new.items ≡ line.old.items ++ left_in 4 (kind_text kind) }
     ensures len { length line.new.items ≤ length line.old.items + 18 }
@@ -75,11 +75,11 @@ fn push_kind(line: &mut Line, kind: EditKind)
     push_left(line, 4, kind_text(kind).as_slice());
 }
 
-fn reel_text(source: Source) -> Line
+fn reel_text(source: Source) -> LineBuffer
     ensures items { result.items ≡ source_reel source }
     ensures len { length result.items ≤ 28 }
 {
-    let mut text = Line::new();
+    let mut text = LineBuffer::new();
     match source {
         Source::Black => push(&mut text, b"BL"),
         Source::Bars => push(&mut text, b"BARS"),
@@ -89,7 +89,7 @@ fn reel_text(source: Source) -> Line
     text
 }
 
-fn push_reel(line: &mut Line, source: Source)
+fn push_reel(line: &mut LineBuffer, source: Source)
     requires { length line.old.items + 36 ≤ 256 }
     ensures items { line.new.items ≡ line.old.items ++ left_in 8 (source_reel source) }
     ensures len { length line.new.items ≤ length line.old.items + 36 }
@@ -97,12 +97,12 @@ fn push_reel(line: &mut Line, source: Source)
     push_left(line, 8, reel_text(source).as_slice());
 }
 
-fn item_line(plan: &PlanRow, item: &Item) -> Result<Line, RowFault>
+fn item_line(plan: &PlanRow, item: &Item) -> Result<LineBuffer, RowFault>
     ensures variant { IsOk result ↔ (has_label plan.now.rate item.now.src_first ≡ true) }
     ensures ok { IfOk result (λ line. line.items ≡ item_line plan.now item.now) }
     ensures err { IfErr result (λ e. e ≡ RowFault.NoLabel) }
 {
-    let mut line = Line::new();
+    let mut line = LineBuffer::new();
     push_number(&mut line, 4, u32::from(item.n));
     push(&mut line, b" ");
     push(&mut line, &label_at(plan, item.pos).bytes());
@@ -163,11 +163,11 @@ pub(crate) fn frames_of(items: &[Item]) -> u64
     frames
 }
 
-fn end_line(day: &DayPlan) -> Line
+fn end_line(day: &DayPlan) -> LineBuffer
     ensures { result.items ≡ plan_end day.now }
 {
     day.keep_the_rules();
-    let mut line = Line::new();
+    let mut line = LineBuffer::new();
     push(&mut line, b"ITEMS ");
     push_decimal(&mut line, day.items().len());
     push(&mut line, b" FRAMES ");

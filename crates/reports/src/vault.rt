@@ -8,13 +8,13 @@ ghost use Rattle.reports.specs.Fields.{left_in};
 ghost use Rattle.reports.specs.Vault.{slot_field, tape_line, vault_end, vault_text};
 
 use crate::columns::{push_left, push_number};
-use crate::{Line, WriteFault, push, push_decimal, send};
+use crate::{LineBuffer, WriteFault, push, push_decimal, send};
 use channel_plan::PlanRow;
 use std::io::Write;
 use vault_core::{Barcode, Tape};
 
 #[tactic(auto, using(crate::proofs::LengthLemmas::barcode_short))]
-fn push_barcode(line: &mut Line, barcode: &Barcode)
+fn push_barcode(line: &mut LineBuffer, barcode: &Barcode)
     requires { length line.old.items + 16 ≤ 256 }
     ensures items { line.new.items ≡ line.old.items ++ left_in 8 barcode.now }
     ensures len { length line.new.items ≤ length line.old.items + 16 }
@@ -24,7 +24,7 @@ fn push_barcode(line: &mut Line, barcode: &Barcode)
 }
 
 // The slot in which a tape stands, or that it is out.
-fn push_slot(line: &mut Line, slot: Option<u16>)
+fn push_slot(line: &mut LineBuffer, slot: Option<u16>)
     requires { length line.old.items + 14 ≤ 256 }
     ensures items { line.new.items ≡ line.old.items ++ slot_field slot }
     ensures len { length line.new.items ≤ length line.old.items + 14 }
@@ -35,10 +35,10 @@ fn push_slot(line: &mut Line, slot: Option<u16>)
     }
 }
 
-fn tape_line(tape: &Tape) -> Line
+fn tape_line(tape: &Tape) -> LineBuffer
     ensures { result.items ≡ tape_line tape.now }
 {
-    let mut line = Line::new();
+    let mut line = LineBuffer::new();
     push_number(&mut line, 4, u32::from(tape.n));
     push(&mut line, b" ");
     push_barcode(&mut line, &tape.barcode);
@@ -56,10 +56,10 @@ pub fn write_tape<W: Write>(output: &mut W, tape: &Tape) -> Result<(), WriteFaul
     send(output, tape_line(tape).as_slice())
 }
 
-fn end_line(tapes: usize, shelved: usize, slots: u16) -> Line
+fn end_line(tapes: usize, shelved: usize, slots: u16) -> LineBuffer
     ensures { result.items ≡ vault_end tapes shelved slots }
 {
-    let mut line = Line::new();
+    let mut line = LineBuffer::new();
     push(&mut line, b"TAPES ");
     push_decimal(&mut line, tapes);
     push(&mut line, b" SHELVED ");

@@ -10,16 +10,16 @@ use Rattle.channel_view_model.specs.Centre.{Centre}
 use Rattle.channel_view_model.specs.Rules.{KeepsRules}
 use Rattle.channel_plan.specs.declared.refusal.Code.{Code}
 use Rattle.channel_plan.specs.declared.refusal.Code.TheVariants.{NotOurs, SchemaVersion, Unavailable}
-use Rattle.station_tables_schema.specs.First.{IsFirstCentre}
+use Rattle.station_tables_statements.specs.First.{IsFirstCentre}
 use Rattle.station_tables_records.specs.OfficeRow.{HasVersion}
-use Rattle.station_tables_schema.specs.Rows.{Holds, IsCentre}
+use Rattle.station_tables_statements.specs.Rows.{Holds, IsCentre}
 use Rattle.station_tables_statements.specs.Standing.{IsFault}
-use Rattle.station_tables_commits.specs.Tables.{LeavesSets}
-use Rattle.station_tables_commits.specs.declared.opening.Version.{Version}
-use Rattle.station_tables_commits.specs.declared.opening.Version.TheVariants.{First, Second}
-use Rattle.station_tables_commits.specs.Opening.{HasTablesOf, IsCentreIn, IsCentreOf, database_in, number_of, rows_at}
-use Rattle.station_tables_commits.specs.Opening.{schema_of}
-use Rattle.station_tables_commits.proofs.OpenLemmas.{known_version, one_version, version_in}
+use Rattle.station_tables.specs.Tables.{LeavesSets}
+use Rattle.station_tables.specs.declared.finding.Version.{Version}
+use Rattle.station_tables.specs.declared.finding.Version.TheVariants.{First, Second}
+use Rattle.station_tables.specs.Opening.{HasTablesOf, IsCentreIn, IsCentreOf, database_in, number_of, rows_at}
+use Rattle.station_tables.specs.Opening.{schema_of}
+use Rattle.station_tables.proofs.FindLemmas.{known_version, one_version, version_in}
 use Rattle.station_tables.specs.Store.{HoldsAt, LeavesCentres}
 
 -- the tables of a centre

@@ -12,13 +12,13 @@ use Rattle.channel_plan.specs.declared.refusal.Code.TheVariants.{Unavailable}
 use Rattle.channel_plan.specs.declared.refusal.Refusal.{Refusal}
 use Rattle.channel_view_model.specs.Centre.{Centre}
 use Rattle.station_tables_records.specs.OfficeRow.{HasVersion}
-use Rattle.station_tables_texts.specs.Schema.{no_schema}
-use Rattle.station_tables_schema.specs.Calls.{HasCentreSchema, HasKnownSchema}
-use Rattle.station_tables_schema.specs.Rows.{BeginsBare, Holds, Stands, plan_in_order}
+use Rattle.station_tables_records.specs.Schema.{no_schema}
+use Rattle.station_tables_statements.specs.Calls.{HasCentreSchema, HasKnownSchema}
+use Rattle.station_tables_statements.specs.Rows.{BeginsBare, Holds, Stands, plan_in_order}
 use Rattle.station_tables_statements.specs.Standing.{IsAlone}
-use Rattle.station_tables_commits.specs.Tables.{LeavesDatabase, LeavesSets, MayLeave}
-use Rattle.station_tables_commits.specs.declared.opening.Version.{Version}
-use Rattle.station_tables_commits.specs.Opening.{HasTablesOf, IsCentreIn, IsCentreOf, number_of, rows_at}
+use Rattle.station_tables.specs.Tables.{LeavesDatabase, LeavesSets, MayLeave}
+use Rattle.station_tables.specs.declared.finding.Version.{Version}
+use Rattle.station_tables.specs.Opening.{HasTablesOf, IsCentreIn, IsCentreOf, number_of, rows_at}
 use Rattle.station_tables.specs.Store.{LeavesCentres, LeavesFound}
 
 -- What an open leaves.

@@ -5,11 +5,11 @@ use Rattle.sqlite_trees.specs.declared.store.Store.{Ghosts}
 use Rattle.sqlite.specs.Held.{state}
 use Rattle.sqlite.specs.State.{State, HasCleanDisk}
 use Rattle.channel_view_model.specs.Centre.{Centre}
-use Rattle.station_tables_schema.specs.First.{HoldsFirstSet}
-use Rattle.station_tables_schema.specs.Rows.{Holds}
-use Rattle.station_tables_texts.specs.Schema.{first_schema}
-use Rattle.station_tables_commits.specs.declared.opening.Version.{Version}
-use Rattle.station_tables_commits.specs.declared.opening.Version.TheVariants.{First, Second}
+use Rattle.station_tables_statements.specs.First.{HoldsFirstSet}
+use Rattle.station_tables_statements.specs.Rows.{Holds}
+use Rattle.station_tables_records.specs.Schema.{first_schema}
+use Rattle.station_tables.specs.declared.finding.Version.{Version}
+use Rattle.station_tables.specs.declared.finding.Version.TheVariants.{First, Second}
 use Rattle.station_tables.specs.declared.connected.SqlRows.{SqlRows}
 
 -- what its connection shows

@@ -24,19 +24,34 @@
 //! }
 //! ```
 //!
+//! Each call is one transaction on a connection with none open: those that commit, and the one that tests what is
+//! opened, before it is taken for a centre: its version, that each of its tables' rows reads, and that the set which
+//! they make keeps the rules. A change of a day writes what differs, and reads nothing (`writes`, `puts`): its premise is
+//! that the change is one from the day that the rows make (`ComesFromNow`), as each change is that a command decides.
+//! What was aired gets the batch that came, with its rows as its lines. Refused, a call leaves what was committed.
+//!
 //! 98 is answered only where there is a version other than 1 and 2 (`version`), 97 never where there is
 //! (`known`), nor to a centre whose rows keep the rules (`ours`). What a stop leaves of a store opens, or is
 //! refused with 100 ([`SqlRows::open_after_stop`]); so of a connection that came back with a refusal
 //! (`open_after_refusal`).
 #![tactic(auto)]
 
+mod airing_writing;
+mod applying;
+mod by_channel;
 mod connected;
+mod creating;
+mod day_writing;
+mod finding;
+mod founding;
 mod loading;
 mod memory;
+mod migrating;
 mod opening;
 mod stopped;
 mod store;
 
 pub use connected::SqlRows;
+pub use finding::Version;
 pub use memory::centre_in_memory;
 pub use timecode::Unavailable;

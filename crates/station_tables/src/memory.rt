@@ -1,7 +1,7 @@
 //! A centre in memory.
 ghost use Rattle.std.specs.Prelude.{IfOk};
 ghost use Rattle.sqlite.specs.Steps.{over_memory};
-ghost use Rattle.station_tables_schema.specs.Rows.{Stands, plan_in_order};
+ghost use Rattle.station_tables_statements.specs.Rows.{Stands, plan_in_order};
 ghost use Rattle.station_tables.specs.Store.{store_state};
 
 use crate::connected::SqlRows;

@@ -4,9 +4,10 @@ ghost use Rattle.sqlite.specs.Held.{state};
 ghost use Rattle.channel_plan.specs.Refusal.{refused};
 ghost use Rattle.station_tables.specs.Opens.{Opens, RefusesToOpen};
 
+use crate::finding::{Version, find_centre};
+use crate::migrating::migrate_centre;
 use channel_plan::Code;
 use sqlite::{Alter, Connection};
-use station_tables_commits::{Version, find_centre, migrate_centre};
 use std::alloc::Global;
 
 /// Tests the tables of a centre, and makes those of version 1 of version 2.

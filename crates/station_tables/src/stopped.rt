@@ -4,14 +4,14 @@ ghost use Rattle.sqlite.specs.State.{HasCleanDisk};
 ghost use Rattle.sqlite.specs.Held.{state};
 ghost use Rattle.channel_plan.specs.Refusal.{refused};
 ghost use Rattle.channel_view_model.specs.Centre.{Centre};
-ghost use Rattle.station_tables_schema.specs.Rows.{Stands, StandsFor};
-ghost use Rattle.station_tables_commits.specs.Tables.{LeavesSets, MayLeave};
+ghost use Rattle.station_tables_statements.specs.Rows.{Stands, StandsFor};
+ghost use Rattle.station_tables.specs.Tables.{LeavesSets, MayLeave};
 ghost use Rattle.station_tables.specs.Store.{FindsLeft, HoldsAt, LeavesCentres, LeavesFound, store_state};
 
 use crate::connected::SqlRows;
+use crate::finding::Version;
 use channel_plan::{Code, Refusal};
 use sqlite::{Alter, Connection};
-use station_tables_commits::Version;
 use std::alloc::Global;
 
 impl<S: Alter> SqlRows<S> {

@@ -2,18 +2,20 @@
 ghost use Rattle.std.specs.Prelude.{◌≡◌, false, IfOk, IfErr};
 ghost use Rattle.sqlite.specs.State.{HasCleanDisk};
 ghost use Rattle.sqlite.specs.Held.{state};
-ghost use Rattle.station_tables_schema.specs.Rows.{StandsFor};
-ghost use Rattle.station_tables_commits.specs.Tables.{LeavesSets, MayLeave};
+ghost use Rattle.station_tables_statements.specs.Rows.{StandsFor};
+ghost use Rattle.station_tables.specs.Tables.{LeavesSets, MayLeave};
 ghost use Rattle.station_tables.specs.Store.{store_state};
 ghost use Rattle.station_tables.specs.Opens.{Creates, Opens, RefusesToCreate, RefusesToOpen};
 
+use crate::applying::commit_change;
 use crate::connected::SqlRows;
+use crate::finding::Version;
+use crate::founding::create_centre;
 use crate::loading::{fetch_part, load_view};
 use crate::opening::open_centre;
 use channel_plan::{Code, PlanRow, Refusal, is_plan};
 use channel_view_model::{Change, Need, Part, RowStore, Table, TableFault, View};
 use sqlite::{Alter, Connection};
-use station_tables_commits::{Version, commit_change, create_centre};
 use station_tables_reading::write_table;
 use std::alloc::Global;
 use std::io::Write;

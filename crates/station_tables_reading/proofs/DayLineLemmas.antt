@@ -20,14 +20,14 @@ use Rattle.channel_view_model.specs.Airings.{airing_or, airing_at}
 use Rattle.channel_view_model.specs.Rules.{numbers_rise}
 use Rattle.channel_view_model.specs.Tables.{of_channel, rows_of}
 use Rattle.channel_view_model.proofs.TableLemmas.{picked_is}
-use Rattle.station_tables_rows.specs.declared.day_rows.DayRow.{DayRow}
-use Rattle.station_tables_rows.specs.declared.day_rows.ItemRow.{ItemRow}
-use Rattle.station_tables_rows.specs.DayRows.{DaySet, Rise, day_made, is_day_in, is_item_in, is_of_day, items_at}
-use Rattle.station_tables_rows.specs.DayRows.{position_cmp}
-use Rattle.station_tables_rows.specs.AiredRows.{AiredSet, HaveNoHoles, airing_of_rows, airings_made, batch_cmp}
-use Rattle.station_tables_rows.specs.AiredRows.{batches_at, is_batch_of, rows_in_batch}
-use Rattle.station_tables_rows.proofs.MadeLemmas.{position_total}
-use Rattle.station_tables_days.proofs.SeenLemmas.{airing_seen_is}
+use Rattle.station_tables_records.specs.declared.day_rows.DayRow.{DayRow}
+use Rattle.station_tables_records.specs.declared.day_rows.ItemRow.{ItemRow}
+use Rattle.station_tables_records.specs.MadeDays.{DaySet, Rise, day_made, is_day_in, is_item_in, is_of_day, items_at}
+use Rattle.station_tables_records.specs.MadeDays.{position_cmp}
+use Rattle.station_tables_records.specs.MadeAirings.{AiredSet, HaveNoHoles, airing_of_rows, airings_made, batch_cmp}
+use Rattle.station_tables_records.specs.MadeAirings.{batches_at, is_batch_of, rows_in_batch}
+use Rattle.station_tables_records.proofs.MadeLemmas.{position_total}
+use Rattle.station_tables_statements.proofs.AiringSeenLemmas.{airing_seen_is}
 use Rattle.station_tables_reading.specs.DayLines.{counts_at, is_day_below}
 
 -- ---- the rows of a day

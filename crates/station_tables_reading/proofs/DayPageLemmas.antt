@@ -18,12 +18,12 @@ use Rattle.channel_view_model.specs.Seen.{sources_seen}
 use Rattle.channel_view_model.specs.Tables.{rows_of}
 use Rattle.channel_view_model.proofs.AiringRuleLemmas.{numbers_of}
 use Rattle.channel_view_model.proofs.ViewLemmas.{found_channel}
-use Rattle.station_tables_rows.specs.declared.day_rows.DayRow.{DayRow}
-use Rattle.station_tables_rows.specs.DayRows.{is_day_in}
+use Rattle.station_tables_records.specs.declared.day_rows.DayRow.{DayRow}
+use Rattle.station_tables_records.specs.MadeDays.{is_day_in}
 use Rattle.station_tables_records.specs.TablePairs.{aired_rows_in, day_rows_in}
 use Rattle.station_tables_records.proofs.AiredLemmas.{batches_rise}
-use Rattle.station_tables_schema.specs.Rows.{HoldsSet, rows_of_tables}
-use Rattle.station_tables_texts.specs.Inside.{inside, Looks}
+use Rattle.station_tables_statements.specs.Rows.{HoldsSet, rows_of_tables}
+use Rattle.station_tables_records.specs.Inside.{inside, Looks}
 use Rattle.station_tables_statements.specs.Calls.{WhileCleanCentre}
 use Rattle.station_tables_reading.specs.DayLines.{days_below, is_day_below, line_in}
 use Rattle.station_tables_reading.proofs.DayLineLemmas.{all_below, count_seen, lines_seen, next_days}

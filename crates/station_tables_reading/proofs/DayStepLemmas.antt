@@ -11,8 +11,8 @@ use Rattle.reports.specs.declared.days.DayCounts.{DayCounts}
 use Rattle.reports.specs.Days.{counts_line}
 use Rattle.reports.proofs.LineLemmas.{line_read, lines_read}
 use Rattle.reports.proofs.PartLemmas.{nothing_yet, part_behind}
-use Rattle.station_tables_rows.specs.declared.day_rows.DayRow.{DayRow}
-use Rattle.station_tables_texts.specs.Inside.{inside, Looks}
+use Rattle.station_tables_records.specs.declared.day_rows.DayRow.{DayRow}
+use Rattle.station_tables_records.specs.Inside.{inside, Looks}
 use Rattle.station_tables_statements.specs.Calls.{WhileCleanCentre}
 use Rattle.station_tables_reading.specs.DayLines.{counts_in, line_in}
 use Rattle.station_tables_reading.proofs.ThenLemmas.{rows_then}

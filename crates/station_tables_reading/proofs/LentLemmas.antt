@@ -9,12 +9,14 @@ use Rattle.sqlite.specs.State.{State}
 use Rattle.vault_core.specs.declared.offer.Offer.{Offer}
 use Rattle.grant_core.specs.declared.grant.Grant.{Grant}
 use Rattle.channel_view_model.specs.Seen.{grant_of, grants_to}
-use Rattle.station_tables_rows.specs.declared.offer_rows.SpanRow.{SpanRow}
-use Rattle.station_tables_rows.specs.OfferRows.{Rise, offer_cmp, offer_made}
+use Rattle.station_tables_records.specs.declared.offer_rows.SpanRow.{SpanRow}
+use Rattle.station_tables_records.specs.MadeDays.{Rise}
+use Rattle.station_tables_records.specs.MadeOffers.{offer_made}
+use Rattle.station_tables_records.specs.OfferRows.{offer_cmp}
 use Rattle.station_tables_records.specs.OfferRows.{offer_table}
 use Rattle.station_tables_records.specs.TablePairs.{offer_rows_in}
-use Rattle.station_tables_schema.specs.Rows.{offers_in}
-use Rattle.station_tables_texts.specs.Table.{IsTypedIn}
+use Rattle.station_tables_statements.specs.Rows.{offers_in}
+use Rattle.station_tables_records.specs.Table.{IsTypedIn}
 use Rattle.station_tables_reading.specs.Lent.{lent_to}
 use Rattle.station_tables_records.proofs.OfferRowLemmas.{offer_table_is}
 use Rattle.station_tables_records.proofs.DayLemmas.{rows_rise}

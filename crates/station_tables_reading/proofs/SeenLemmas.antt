@@ -10,8 +10,8 @@ use Rattle.sqlite.specs.Held.{Held, state}
 use Rattle.channel_plan.specs.declared.plan.PlanRow.{PlanRow}
 use Rattle.channel_view_model.specs.Centre.{Centre, plan_of, view_at, view_of}
 use Rattle.channel_view_model.specs.Rules.{KeepsRules}
-use Rattle.station_tables_texts.specs.Inside.{inside, Reads}
-use Rattle.station_tables_schema.specs.Rows.{HoldsSet, StandsFor, rows_of_tables}
+use Rattle.station_tables_records.specs.Inside.{inside, Reads}
+use Rattle.station_tables_statements.specs.Rows.{HoldsSet, StandsFor, rows_of_tables}
 use Rattle.station_tables_statements.proofs.StandLemmas.{on_ok_so}
 
 module _ (ch : ℕ) (rows : Centre) where

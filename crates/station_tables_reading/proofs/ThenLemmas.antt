@@ -4,7 +4,7 @@ use Rattle.sqlite_trees.specs.declared.store.Store.{Ghosts}
 use Rattle.sqlite.specs.declared.transaction.Transaction.{Transaction}
 use Rattle.sqlite.specs.Effect.{Database}
 use Rattle.sqlite.specs.Held.{state}
-use Rattle.station_tables_texts.specs.Inside.{inside, IsSame, Looks}
+use Rattle.station_tables_records.specs.Inside.{inside, IsSame, Looks}
 use Rattle.station_tables_statements.specs.Calls.{WhileCleanCentre}
 use Rattle.station_tables_statements.proofs.LookLemmas.{centre_looked, was_clean}
 

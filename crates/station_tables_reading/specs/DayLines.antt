@@ -1,11 +1,11 @@
 -- What the days table tells of the days that rows make.
 use Rattle.std.specs.Prelude.{ℕ, ◌&&◌, ◌==◌, Bool, List, filter, length, map, nat_lt}
 use Rattle.sqlite_trees.specs.Tree.{Trees}
-use Rattle.station_tables_rows.specs.declared.aired_rows.BatchRow.{BatchRow}
-use Rattle.station_tables_rows.specs.declared.day_rows.DayRow.{DayRow}
-use Rattle.station_tables_rows.specs.declared.day_rows.ItemRow.{ItemRow}
-use Rattle.station_tables_rows.specs.DayRows.{DaySet, is_of_day, state_of}
-use Rattle.station_tables_rows.specs.AiredRows.{AiredSet, is_batch_of}
+use Rattle.station_tables_records.specs.declared.aired_rows.BatchRow.{BatchRow}
+use Rattle.station_tables_records.specs.declared.day_rows.DayRow.{DayRow}
+use Rattle.station_tables_records.specs.declared.day_rows.ItemRow.{ItemRow}
+use Rattle.station_tables_records.specs.MadeDays.{DaySet, is_of_day, state_of}
+use Rattle.station_tables_records.specs.MadeAirings.{AiredSet, is_batch_of}
 use Rattle.station_tables_records.specs.TablePairs.{aired_rows_in, day_rows_in}
 use Rattle.reports.specs.declared.days.DayCounts.{DayCounts}
 use Rattle.reports.specs.Days.{counts_line}

@@ -17,8 +17,8 @@ use Rattle.channel_view_model.specs.declared.table.Table.{Table}
 use Rattle.channel_view_model.specs.declared.table.Table.TheVariants.{Vault, Clips, Offers, Lent, Days}
 use Rattle.channel_view_model.specs.declared.view.View.{View}
 use Rattle.channel_view_model.specs.Centre.{plan_of, view_at}
-use Rattle.station_tables_texts.specs.Inside.{inside}
-use Rattle.station_tables_schema.specs.Rows.{HoldsSet}
+use Rattle.station_tables_records.specs.Inside.{inside}
+use Rattle.station_tables_statements.specs.Rows.{HoldsSet}
 use Rattle.station_tables_statements.specs.Calls.{WhileCleanCentre, set_in}
 
 -- Of a call inside a transaction, on a centre that keeps the rules, and has no row outside of its set, while the disk

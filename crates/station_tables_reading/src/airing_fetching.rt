@@ -4,14 +4,14 @@ ghost use Rattle.channel_view_model.specs.Airings.{airing_at};
 ghost use Rattle.channel_view_model.specs.Centre.{plan_of};
 ghost use Rattle.channel_view_model.specs.Need.{IsAiringAnswer};
 ghost use Rattle.channel_view_model.specs.Tables.{of_channel};
-ghost use Rattle.station_tables_texts.specs.Inside.{inside, Looks, Reads};
+ghost use Rattle.station_tables_records.specs.Inside.{inside, Looks, Reads};
 ghost use Rattle.station_tables_statements.specs.Calls.{WhileCleanCentre, OwnsRowsNow, set_in};
 
+use crate::airing_loading::load_airing;
 use asrun_match::AiredDay;
 use channel_plan::PlanRow;
 use channel_view_model::{DayNumber, nothing_aired};
 use sqlite::{Alter, Transaction};
-use station_tables_days::load_airing;
 use std::alloc::Global;
 use timecode::Unavailable;
 

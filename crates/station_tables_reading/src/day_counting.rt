@@ -1,14 +1,14 @@
 //! What the days table tells of a day, from the tables: its items and its batches are counted by their keys.
 ghost use Rattle.std.specs.Prelude.{◌≡◌, map, IfOk};
 ghost use Rattle.reports.specs.Playlist.{frames_of};
-ghost use Rattle.station_tables_texts.specs.Inside.{inside, Reads};
+ghost use Rattle.station_tables_records.specs.Inside.{inside, Reads};
 ghost use Rattle.station_tables_statements.specs.Calls.{WhileCleanCentre};
 ghost use Rattle.station_tables_reading.specs.DayLines.{counts_in, counts_of_rows};
 
 use reports::DayCounts;
 use sqlite::{Alter, Transaction};
-use station_tables_days::{load_batch_rows, load_item_rows};
-use station_tables_rows::{BatchRow, DayRow, ItemRow, state_of};
+use station_tables_records::{BatchRow, DayRow, ItemRow, state_of};
+use station_tables_statements::{load_batch_rows, load_item_rows};
 use std::alloc::Global;
 use timecode::Unavailable;
 

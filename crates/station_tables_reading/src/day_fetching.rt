@@ -9,16 +9,16 @@ ghost use Rattle.channel_view_model.specs.Seen.{grants_to};
 ghost use Rattle.channel_view_model.specs.Centre.{plan_of};
 ghost use Rattle.channel_view_model.specs.Days.{day_at};
 ghost use Rattle.channel_view_model.specs.Need.{AreSourceAnswers, IsDayAnswer};
-ghost use Rattle.station_tables_texts.specs.Inside.{inside, Reads, Looks};
+ghost use Rattle.station_tables_records.specs.Inside.{inside, Reads, Looks};
 ghost use Rattle.station_tables_statements.specs.Calls.{set_in, WhileCleanCentre};
 ghost use Rattle.station_tables_reading.specs.Lent.{lent_to};
 
+use crate::day_loading::load_days;
 use channel_plan::PlanRow;
 use channel_view_model::{DayNumber, Need, SourcesAsked};
 use grant_core::Grant;
 use playlist_core::{DayPlan, Source, SourcesFound};
 use sqlite::{Alter, Transaction};
-use station_tables_days::load_days;
 use station_tables_statements::{load_lent, load_rows, row_numbered};
 use std::alloc::Global;
 use timecode::Unavailable;

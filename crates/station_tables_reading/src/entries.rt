@@ -5,7 +5,7 @@
 //! be a page's. So they have no pages, and are read at once. The days have numbers with holes, and pages of their own.
 ghost use Rattle.std.specs.Prelude.{◌≡◌, IfOk};
 ghost use Rattle.channel_plan.specs.declared.plan.PlanRow.{PlanRow as Plan};
-ghost use Rattle.station_tables_texts.specs.Inside.{Looks};
+ghost use Rattle.station_tables_records.specs.Inside.{Looks};
 ghost use Rattle.station_tables_statements.specs.Numbered.{page_of};
 ghost use Rattle.station_tables_reading.specs.Lines.{WhileCleanSeen, Written, count_of, end_of, joined, lines_of};
 ghost use Rattle.station_tables_reading.specs.Lines.{shelved_of};

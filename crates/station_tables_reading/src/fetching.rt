@@ -3,7 +3,7 @@ ghost use Rattle.std.specs.Prelude.{IfOk};
 ghost use Rattle.channel_view_model.specs.Centre.{view_of};
 ghost use Rattle.channel_view_model.specs.Need.{IsFetched};
 ghost use Rattle.channel_view_model.specs.Rules.{KeepsRules};
-ghost use Rattle.station_tables_texts.specs.Inside.{inside, Reads};
+ghost use Rattle.station_tables_records.specs.Inside.{inside, Reads};
 ghost use Rattle.station_tables_statements.specs.Calls.{WhileCleanCentre, OwnsRowsNow, set_in};
 
 use crate::airing_fetching::find_airing;

@@ -14,8 +14,10 @@
 #![tactic(auto)]
 
 mod airing_fetching;
+mod airing_loading;
 mod day_counting;
 mod day_fetching;
+mod day_loading;
 mod days_writing;
 mod entries;
 mod fetching;

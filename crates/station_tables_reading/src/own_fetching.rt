@@ -5,7 +5,7 @@ ghost use Rattle.std.specs.Option.{option_and_then};
 ghost use Rattle.vault_core.specs.Asked.{AreTapeAnswers, AreClipAnswers};
 ghost use Rattle.grant_core.specs.Asked.{AreOfferAnswers};
 ghost use Rattle.channel_view_model.specs.Tables.{of_channel};
-ghost use Rattle.station_tables_texts.specs.Inside.{inside, Looks};
+ghost use Rattle.station_tables_records.specs.Inside.{inside, Looks};
 ghost use Rattle.station_tables_statements.specs.Calls.{WhileCleanCentre, set_in};
 ghost use Rattle.station_tables_statements.specs.Numbered.{AreNumbered};
 

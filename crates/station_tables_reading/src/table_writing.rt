@@ -7,8 +7,8 @@ ghost use Rattle.reports.specs.Output.{AppendsPart};
 ghost use Rattle.channel_view_model.specs.Centre.{Centre, view_of};
 ghost use Rattle.channel_view_model.specs.Rules.{KeepsRules};
 ghost use Rattle.channel_view_model.specs.TableText.{table_text, text_at};
-ghost use Rattle.station_tables_texts.specs.Inside.{inside, Looks, Reads};
-ghost use Rattle.station_tables_schema.specs.Rows.{HoldsSet, StandsFor};
+ghost use Rattle.station_tables_records.specs.Inside.{inside, Looks, Reads};
+ghost use Rattle.station_tables_statements.specs.Rows.{HoldsSet, StandsFor};
 ghost use Rattle.station_tables_statements.specs.Calls.{WhileCleanCentre, set_in};
 ghost use Rattle.station_tables_reading.specs.Lines.{WhileCleanSeen, Written, joined, lines_of, shelved_of};
 

@@ -5,15 +5,16 @@ ghost use Rattle.channel_view_model.specs.Tables.{rows_of};
 ghost use Rattle.channel_view_model.specs.Centre.{own_of, plan_of, view_of};
 ghost use Rattle.channel_view_model.specs.Seen.{grants_to};
 ghost use Rattle.channel_view_model.specs.Rules.{KeepsRules};
-ghost use Rattle.station_tables_texts.specs.Inside.{inside, Reads};
+ghost use Rattle.station_tables_records.specs.Inside.{inside, Reads};
 ghost use Rattle.station_tables_statements.specs.Calls.{WhileCleanCentre, set_in};
 
+use crate::airing_loading::load_airings;
+use crate::day_loading::load_days;
 use channel_plan::{LAST_DAY, PlanRow};
 use channel_view_model::{Airings, Days, View, airings_alone, days_alone};
 use channel_view_rules::keeps_view_rules;
 use grant_core::LentRows;
 use sqlite::{Alter, Transaction};
-use station_tables_days::{load_airings, load_days};
 use station_tables_statements::{load_lent, load_plan, load_rows};
 use std::alloc::Global;
 use timecode::Unavailable;

@@ -6,22 +6,22 @@ use Rattle.sqlite_keyed.specs.Lists.{insert_sorted}
 use Rattle.sqlite_keyed.proofs.ListLemmas.{all_weaker}
 use Rattle.sqlite_trees.specs.Tree.{Trees}
 use Rattle.sqlite.specs.State.{State, Shown, ExecutesInside}
-use Rattle.station_tables_rows.specs.DayRows.{Rise}
-use Rattle.station_tables_rows.specs.declared.aired_rows.BatchRow.{BatchRow}
-use Rattle.station_tables_rows.specs.declared.aired_rows.AiredLine.{AiredLine}
-use Rattle.station_tables_rows.specs.AiredRows.{batch_cmp, line_cmp, is_batch_of, is_line_in, LacksLine}
-use Rattle.station_tables_texts.specs.Table.{IsTypedIn, rows_in, ChangesTable, ShowsPart}
-use Rattle.station_tables_texts.proofs.TableLemmas.{inserts_row}
-use Rattle.station_tables_texts.proofs.SelectLemmas.{shows_part}
-use Rattle.station_tables_texts.specs.Schema.{centre_schema}
-use Rattle.station_tables_texts.proofs.AiredTexts.{channel_batches_text, batches_of_text, channel_lines_text}
-use Rattle.station_tables_texts.proofs.AiredTexts.{lines_of_text, insert_batch_text, insert_line_text}
-use Rattle.station_tables_texts.specs.Values.{of_nat}
+use Rattle.station_tables_records.specs.MadeDays.{Rise}
+use Rattle.station_tables_records.specs.declared.aired_rows.BatchRow.{BatchRow}
+use Rattle.station_tables_records.specs.declared.aired_rows.AiredLine.{AiredLine}
+use Rattle.station_tables_records.specs.MadeAirings.{batch_cmp, line_cmp, is_batch_of, is_line_in, LacksLine}
+use Rattle.station_tables_records.specs.Table.{IsTypedIn, rows_in, ChangesTable, ShowsPart}
+use Rattle.station_tables_records.proofs.TableLemmas.{inserts_row}
+use Rattle.station_tables_records.proofs.SelectLemmas.{shows_part}
+use Rattle.station_tables_records.specs.Schema.{centre_schema}
+use Rattle.station_tables_records.proofs.AiredTexts.{channel_batches_text, batches_of_text, channel_lines_text}
+use Rattle.station_tables_records.proofs.AiredTexts.{lines_of_text, insert_batch_text, insert_line_text}
+use Rattle.station_tables_records.specs.Values.{of_nat}
 use Rattle.station_tables_records.specs.BatchRows.{batch_row, batch_table, LacksBatch}
 use Rattle.station_tables_records.specs.LineRows.{line_row, line_table}
 use Rattle.station_tables_records.specs.TwoTables.{ChangesBoth, HasBoth}
 use Rattle.station_tables_records.specs.TablePairs.{aired_rows_in, aired_tables, on_batches, on_lines}
-use Rattle.station_tables_texts.proofs.AiredTextLemmas.{aired_texts}
+use Rattle.station_tables_records.proofs.AiredTextLemmas.{aired_texts}
 use Rattle.station_tables_records.proofs.BatchRowLemmas.{batch_table_is, batch_columns_are, batch_is_by, batch_is_of}
 use Rattle.station_tables_records.proofs.BatchRowLemmas.{batch_again, is_batch_row, batch_ties, cast_new_batch}
 use Rattle.station_tables_records.proofs.LineRowLemmas.{line_table_is, line_columns_are, line_is_by, line_is_in}

@@ -6,16 +6,16 @@ use Rattle.std.proofs.lemmas.Bool.Decides.{nat_tests}
 use Rattle.sqlite_value.specs.declared.value.Value.TheVariants.{Null, Int}
 use Rattle.sqlite_value.specs.Order.{Row, column, value_cmp}
 use Rattle.sqlite_rules.specs.Cast.{cast_row}
-use Rattle.station_tables_rows.specs.declared.aired_rows.BatchRow.{BatchRow}
-use Rattle.station_tables_rows.specs.AiredRows.{batch_cmp, is_batch, is_batch_of}
-use Rattle.station_tables_texts.specs.Plain.{keeps}
-use Rattle.station_tables_texts.proofs.StatementLemmas.{cast_null, cast_int}
-use Rattle.station_tables_texts.proofs.SelectLemmas.{ShowsColumns}
-use Rattle.station_tables_texts.specs.Schema.{batch}
-use Rattle.station_tables_texts.proofs.Texts.{are_both_at, is_first_at}
-use Rattle.station_tables_texts.proofs.DayTexts.{by_three}
-use Rattle.station_tables_texts.proofs.AiredTexts.{batch_columns}
-use Rattle.station_tables_texts.specs.Values.{of_nat}
+use Rattle.station_tables_records.specs.declared.aired_rows.BatchRow.{BatchRow}
+use Rattle.station_tables_records.specs.MadeAirings.{batch_cmp, is_batch, is_batch_of}
+use Rattle.station_tables_records.specs.Plain.{keeps}
+use Rattle.station_tables_records.proofs.StatementLemmas.{cast_null, cast_int}
+use Rattle.station_tables_records.proofs.SelectLemmas.{ShowsColumns}
+use Rattle.station_tables_records.specs.Schema.{batch}
+use Rattle.station_tables_records.proofs.Texts.{are_both_at, is_first_at}
+use Rattle.station_tables_records.proofs.DayTexts.{by_three}
+use Rattle.station_tables_records.proofs.AiredTexts.{batch_columns}
+use Rattle.station_tables_records.specs.Values.{of_nat}
 use Rattle.station_tables_records.specs.BatchRows.{batch_of, batch_row, batch_key, batch_table}
 use Rattle.station_tables_records.proofs.ColumnLemmas.{columns_are, has_put, shows_columns}
 use Rattle.station_tables_records.proofs.ValueLemmas.{then-Equal, nats_cmp, is_number, equals, both_eq, flipped}

@@ -3,16 +3,16 @@ use Rattle.std.proofs.Common.{◌≡◌, ℕ, pos, [], ◌∷◌, Some, refl, sy
 use Rattle.sqlite_value.specs.declared.value.Value.TheVariants.{Text as Words}
 use Rattle.sqlite_value.specs.Order.{Row, column}
 use Rattle.sqlite_rules.specs.Cast.{cast_row}
-use Rattle.station_tables_texts.specs.Plain.{keeps}
-use Rattle.station_tables_texts.proofs.StatementLemmas.{cast_null, cast_int}
+use Rattle.station_tables_records.specs.Plain.{keeps}
+use Rattle.station_tables_records.proofs.StatementLemmas.{cast_null, cast_int}
 use Rattle.timecode.specs.declared.rates.Rate.{Rate}
 use Rattle.timecode.specs.declared.rates.Rate.TheVariants.{F24, F25, F30, Df30}
 use Rattle.timecode.specs.Rate.{rate_text, rate_of_text}
 use Rattle.channel_plan.specs.declared.plan.PlanRow.{PlanRow}
-use Rattle.station_tables_texts.specs.Schema.{channel}
-use Rattle.station_tables_texts.proofs.SelectLemmas.{ShowsColumns}
-use Rattle.station_tables_texts.specs.Values.{of_nat}
-use Rattle.station_tables_texts.proofs.Texts.{is_first_at, by_id, channel_columns}
+use Rattle.station_tables_records.specs.Schema.{channel}
+use Rattle.station_tables_records.proofs.SelectLemmas.{ShowsColumns}
+use Rattle.station_tables_records.specs.Values.{of_nat}
+use Rattle.station_tables_records.proofs.Texts.{is_first_at, by_id, channel_columns}
 use Rattle.station_tables_records.specs.ChannelRows.{channel_of, channel_row, stored_channel, channel_key, IsChannelRow}
 use Rattle.station_tables_records.specs.ChannelRows.{channel_table, is_channel}
 use Rattle.station_tables_records.proofs.ValueLemmas.{then-Equal, nats_cmp, equals}

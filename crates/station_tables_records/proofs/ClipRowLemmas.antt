@@ -7,15 +7,15 @@ use Rattle.sqlite_trees.specs.Tree.{rowid}
 use Rattle.sqlite_schema.specs.declared.schema.Kind.TheVariants.{Integer}
 use Rattle.sqlite_rules.specs.Edit.{id_in}
 use Rattle.sqlite_rules.specs.Cast.{cast, cast_row}
-use Rattle.station_tables_texts.specs.Plain.{keeps}
-use Rattle.station_tables_texts.proofs.StatementLemmas.{cast_null, cast_int}
+use Rattle.station_tables_records.specs.Plain.{keeps}
+use Rattle.station_tables_records.proofs.StatementLemmas.{cast_null, cast_int}
 use Rattle.umid.specs.BasicUmid.{UmidParts, IsBasicUmid, is_umid, basic_umid, parts_in}
 use Rattle.umid.proofs.UmidLemmas.{parts_in-basic_umid, IsBasicUmid-from_is_umid}
 use Rattle.vault_core.specs.declared.clip.Clip.{Clip}
 use Rattle.vault_core.specs.Clip.{umid_bytes}
-use Rattle.station_tables_texts.specs.Schema.{clip}
-use Rattle.station_tables_texts.proofs.Texts.{are_both_at, clip_columns}
-use Rattle.station_tables_texts.specs.Values.{of_nat}
+use Rattle.station_tables_records.specs.Schema.{clip}
+use Rattle.station_tables_records.proofs.Texts.{are_both_at, clip_columns}
+use Rattle.station_tables_records.specs.Values.{of_nat}
 use Rattle.station_tables_records.specs.ClipRows.{clip_of, clip_row, clip_table, is_clip_with}
 use Rattle.station_tables_records.proofs.ColumnLemmas.{columns_are, column_is, has_put}
 use Rattle.station_tables_records.proofs.NumberedLemmas.{NumbersRows, numbered_rows}

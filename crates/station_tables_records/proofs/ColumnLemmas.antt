@@ -7,9 +7,9 @@ use Rattle.sqlite_trees.specs.Tree.{rowid}
 use Rattle.sqlite_sql.specs.Term.{Term, eval_all}
 use Rattle.sqlite_sql.specs.Query.{output, output_cmp}
 use Rattle.sqlite_rules.specs.Edit.{id_in}
-use Rattle.station_tables_texts.specs.Plain.{plain_query}
-use Rattle.station_tables_texts.specs.Table.{TypedTable}
-use Rattle.station_tables_texts.proofs.SelectLemmas.{ShowsColumns}
+use Rattle.station_tables_records.specs.Plain.{plain_query}
+use Rattle.station_tables_records.specs.Table.{TypedTable}
+use Rattle.station_tables_records.proofs.SelectLemmas.{ShowsColumns}
 use Rattle.station_tables_records.specs.Columns.{HasValues, HasColumns}
 
 -- as many columns of the row as there are values, from column n on

@@ -11,26 +11,27 @@ use Rattle.std.proofs.lemmas.List.Sorted.{IsPermutation-sym}
 use Rattle.sqlite_keyed.proofs.SortLemmas.{IsPermutation-sort_by}
 use Rattle.sqlite_trees.specs.Tree.{Trees}
 use Rattle.sqlite.specs.State.{State, Shown, ExecutesInside}
-use Rattle.station_tables_rows.specs.declared.day_rows.DayRow.{DayRow}
-use Rattle.station_tables_rows.specs.declared.day_rows.ItemRow.{ItemRow}
-use Rattle.station_tables_rows.specs.DayRows.{Rise, day_cmp, item_cmp, is_day, is_day_in, is_item_of, is_item_in}
-use Rattle.station_tables_rows.specs.DayRows.{LacksItem, has_texts}
-use Rattle.station_tables_texts.specs.Table.{TypedTable, IsTable, IsTypedIn, rows_in, ChangesTable, ShowsPart}
-use Rattle.station_tables_texts.proofs.TableLemmas.{inserts_row, updates, deletes}
-use Rattle.station_tables_texts.proofs.SelectLemmas.{shows_part}
-use Rattle.station_tables_texts.proofs.SortLemmas.{is_sorted-sort_by}
-use Rattle.station_tables_texts.proofs.KeyLemmas.{rise_from_sorted}
-use Rattle.station_tables_texts.proofs.WriteLemmas.{ascending_permutes, apart_back}
-use Rattle.station_tables_texts.specs.Schema.{centre_schema}
-use Rattle.station_tables_texts.proofs.Texts.{are_both_at}
-use Rattle.station_tables_texts.proofs.DayTexts.{days_within_text, items_within_text, insert_day_text, set_sealed_text}
-use Rattle.station_tables_texts.proofs.DayTexts.{insert_item_text, delete_item_text, are_three, set_day, found_id}
-use Rattle.station_tables_texts.specs.Values.{of_nat, of_bool}
+use Rattle.station_tables_records.specs.declared.day_rows.DayRow.{DayRow}
+use Rattle.station_tables_records.specs.declared.day_rows.ItemRow.{ItemRow}
+use Rattle.station_tables_records.specs.MadeDays.{Rise, day_cmp, item_cmp, is_day, is_day_in, is_item_of, is_item_in}
+use Rattle.station_tables_records.specs.MadeDays.{LacksItem, has_texts}
+use Rattle.station_tables_records.specs.Table.{TypedTable, IsTable, IsTypedIn, rows_in, ChangesTable, ShowsPart}
+use Rattle.station_tables_records.proofs.TableLemmas.{inserts_row, updates, deletes}
+use Rattle.station_tables_records.proofs.SelectLemmas.{shows_part}
+use Rattle.station_tables_records.proofs.SortLemmas.{is_sorted-sort_by}
+use Rattle.station_tables_records.proofs.KeyLemmas.{rise_from_sorted}
+use Rattle.station_tables_records.proofs.WriteLemmas.{ascending_permutes, apart_back}
+use Rattle.station_tables_records.specs.Schema.{centre_schema}
+use Rattle.station_tables_records.proofs.Texts.{are_both_at}
+use Rattle.station_tables_records.proofs.DayTexts.{days_within_text, items_within_text, insert_day_text}
+use Rattle.station_tables_records.proofs.DayTexts.{set_sealed_text}
+use Rattle.station_tables_records.proofs.DayTexts.{insert_item_text, delete_item_text, are_three, set_day, found_id}
+use Rattle.station_tables_records.specs.Values.{of_nat, of_bool}
 use Rattle.station_tables_records.specs.DayRows.{day_row, day_of, day_table, LacksDay}
 use Rattle.station_tables_records.specs.TwoTables.{ChangesBoth, HasBoth}
 use Rattle.station_tables_records.specs.TablePairs.{day_rows_in, day_tables, on_days, on_items}
 use Rattle.station_tables_records.specs.ItemRows.{item_row, item_table}
-use Rattle.station_tables_texts.proofs.DayTextLemmas.{day_texts}
+use Rattle.station_tables_records.proofs.DayTextLemmas.{day_texts}
 use Rattle.station_tables_records.proofs.TwoTableLemmas.{first_changed, second_changed}
 use Rattle.station_tables_records.proofs.NumberedLemmas.{row_ties, same_row, key_stays}
 use Rattle.station_tables_records.proofs.DayRowLemmas.{day_table_is, day_rows, day_is, day_is_within, day_again}

@@ -7,14 +7,14 @@ use Rattle.sqlite_trees.specs.Tree.{rowid}
 use Rattle.sqlite_schema.specs.declared.schema.Kind.TheVariants.{Integer}
 use Rattle.sqlite_rules.specs.Edit.{id_in}
 use Rattle.sqlite_rules.specs.Cast.{cast, cast_row}
-use Rattle.station_tables_rows.specs.declared.day_rows.DayRow.{DayRow}
-use Rattle.station_tables_rows.specs.DayRows.{is_day, is_day_in}
-use Rattle.station_tables_texts.specs.Plain.{keeps}
-use Rattle.station_tables_texts.proofs.StatementLemmas.{cast_null, cast_int}
-use Rattle.station_tables_texts.specs.Schema.{day}
-use Rattle.station_tables_texts.proofs.Texts.{are_both_at, are_within_at}
-use Rattle.station_tables_texts.proofs.DayTexts.{day_columns}
-use Rattle.station_tables_texts.specs.Values.{of_nat, of_bool}
+use Rattle.station_tables_records.specs.declared.day_rows.DayRow.{DayRow}
+use Rattle.station_tables_records.specs.MadeDays.{is_day, is_day_in}
+use Rattle.station_tables_records.specs.Plain.{keeps}
+use Rattle.station_tables_records.proofs.StatementLemmas.{cast_null, cast_int}
+use Rattle.station_tables_records.specs.Schema.{day}
+use Rattle.station_tables_records.proofs.Texts.{are_both_at, are_within_at}
+use Rattle.station_tables_records.proofs.DayTexts.{day_columns}
+use Rattle.station_tables_records.specs.Values.{of_nat, of_bool}
 use Rattle.station_tables_records.specs.DayRows.{day_of, day_row, day_table}
 use Rattle.station_tables_records.proofs.ColumnLemmas.{columns_are, has_put}
 use Rattle.station_tables_records.proofs.NumberedLemmas.{NumbersRows, numbered_rows, one_is}

@@ -11,16 +11,16 @@ use Rattle.playlist_core.specs.declared.item.EditKind.{EditKind}
 use Rattle.playlist_core.specs.declared.item.EditKind.TheVariants.{Cut}
 use Rattle.playlist_core.specs.Source.{source_reel, source_of_reel}
 use Rattle.playlist_core.specs.Item.{kind_text, kind_of, is_kind}
-use Rattle.station_tables_rows.specs.declared.day_rows.ItemRow.{ItemRow}
-use Rattle.station_tables_rows.specs.DayRows.{item_cmp, is_item_of, is_item_in, is_source, has_texts}
-use Rattle.station_tables_rows.proofs.ReelLemmas.{source_again, kind_again}
-use Rattle.station_tables_texts.specs.Plain.{keeps}
-use Rattle.station_tables_texts.proofs.StatementLemmas.{cast_null, cast_int}
-use Rattle.station_tables_texts.proofs.SelectLemmas.{ShowsColumns}
-use Rattle.station_tables_texts.specs.Schema.{item}
-use Rattle.station_tables_texts.proofs.Texts.{are_within_at}
-use Rattle.station_tables_texts.proofs.DayTexts.{item_columns, are_three, by_three}
-use Rattle.station_tables_texts.specs.Values.{of_nat, text_in}
+use Rattle.station_tables_records.specs.declared.day_rows.ItemRow.{ItemRow}
+use Rattle.station_tables_records.specs.MadeDays.{item_cmp, is_item_of, is_item_in, is_source, has_texts}
+use Rattle.station_tables_records.proofs.ReelLemmas.{source_again, kind_again}
+use Rattle.station_tables_records.specs.Plain.{keeps}
+use Rattle.station_tables_records.proofs.StatementLemmas.{cast_null, cast_int}
+use Rattle.station_tables_records.proofs.SelectLemmas.{ShowsColumns}
+use Rattle.station_tables_records.specs.Schema.{item}
+use Rattle.station_tables_records.proofs.Texts.{are_within_at}
+use Rattle.station_tables_records.proofs.DayTexts.{item_columns, are_three, by_three}
+use Rattle.station_tables_records.specs.Values.{of_nat, text_in}
 use Rattle.station_tables_records.specs.ItemRows.{item_of, item_row, item_key, item_table}
 use Rattle.station_tables_records.proofs.ColumnLemmas.{columns_are, column_is, has_put, shows_columns}
 use Rattle.station_tables_records.proofs.BatchRowLemmas.{threes_cmp}

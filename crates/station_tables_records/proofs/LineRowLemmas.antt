@@ -6,15 +6,15 @@ use Rattle.std.proofs.lemmas.Bool.Decides.{nat_tests}
 use Rattle.sqlite_value.specs.declared.value.Value.TheVariants.{Null, Int, Text as Words}
 use Rattle.sqlite_value.specs.Order.{Row, column, value_cmp}
 use Rattle.sqlite_rules.specs.Cast.{cast_row}
-use Rattle.station_tables_rows.specs.declared.aired_rows.AiredLine.{AiredLine}
-use Rattle.station_tables_rows.specs.AiredRows.{line_cmp, is_line, is_line_in}
-use Rattle.station_tables_texts.specs.Plain.{keeps}
-use Rattle.station_tables_texts.proofs.StatementLemmas.{cast_null, cast_int}
-use Rattle.station_tables_texts.proofs.SelectLemmas.{ShowsColumns}
-use Rattle.station_tables_texts.specs.Schema.{aired}
-use Rattle.station_tables_texts.proofs.Texts.{are_both_at, is_first_at}
-use Rattle.station_tables_texts.proofs.AiredTexts.{line_columns, by_four}
-use Rattle.station_tables_texts.specs.Values.{of_nat}
+use Rattle.station_tables_records.specs.declared.aired_rows.AiredLine.{AiredLine}
+use Rattle.station_tables_records.specs.MadeAirings.{line_cmp, is_line, is_line_in}
+use Rattle.station_tables_records.specs.Plain.{keeps}
+use Rattle.station_tables_records.proofs.StatementLemmas.{cast_null, cast_int}
+use Rattle.station_tables_records.proofs.SelectLemmas.{ShowsColumns}
+use Rattle.station_tables_records.specs.Schema.{aired}
+use Rattle.station_tables_records.proofs.Texts.{are_both_at, is_first_at}
+use Rattle.station_tables_records.proofs.AiredTexts.{line_columns, by_four}
+use Rattle.station_tables_records.specs.Values.{of_nat}
 use Rattle.station_tables_records.specs.LineRows.{line_of, line_row, line_key, IsLineRow, line_table}
 use Rattle.station_tables_records.proofs.ColumnLemmas.{columns_are, has_put, shows_columns}
 use Rattle.station_tables_records.proofs.ValueLemmas.{nats_cmp, is_number, equals, both_eq, flipped}

@@ -9,13 +9,13 @@ use Rattle.sqlite_trees.specs.Tree.{rowid}
 use Rattle.sqlite_sql.specs.Term.{Term, eval_all}
 use Rattle.sqlite_rules.specs.Edit.{id_in}
 use Rattle.sqlite.specs.State.{State, Shown}
-use Rattle.station_tables_texts.specs.Plain.{keeps, plain_query, first_query}
-use Rattle.station_tables_texts.specs.Table.{TypedTable, IsTable, IsTypedIn, ShowsPart, ShowsLast}
-use Rattle.station_tables_texts.proofs.Selects.{Selects}
-use Rattle.station_tables_texts.proofs.SelectLemmas.{ShowsColumns, shows_part}
-use Rattle.station_tables_texts.proofs.LastLemmas.{ShowsFalling, shows_last}
-use Rattle.station_tables_texts.specs.Values.{of_nat}
-use Rattle.station_tables_texts.proofs.Texts.{is_first_at, are_both_at, are_within_at, by_pair, by_falling_pair}
+use Rattle.station_tables_records.specs.Plain.{keeps, plain_query, first_query}
+use Rattle.station_tables_records.specs.Table.{TypedTable, IsTable, IsTypedIn, ShowsPart, ShowsLast}
+use Rattle.station_tables_records.proofs.Selects.{Selects}
+use Rattle.station_tables_records.proofs.SelectLemmas.{ShowsColumns, shows_part}
+use Rattle.station_tables_records.proofs.LastLemmas.{ShowsFalling, shows_last}
+use Rattle.station_tables_records.specs.Values.{of_nat}
+use Rattle.station_tables_records.proofs.Texts.{is_first_at, are_both_at, are_within_at, by_pair, by_falling_pair}
 use Rattle.station_tables_records.specs.Numbered.{numbered_cmp, numbered_key, is_of, is_row, is_on_page}
 use Rattle.station_tables_records.proofs.ColumnLemmas.{shows_columns}
 use Rattle.station_tables_records.proofs.ValueLemmas.{then-Equal, nats_cmp, is_number, is_from, is_up_to, equals}

@@ -13,13 +13,13 @@ use Rattle.sqlite_schema.specs.declared.schema.Kind.TheVariants.{Integer}
 use Rattle.sqlite_rules.specs.Edit.{id_in}
 use Rattle.sqlite_rules.specs.Cast.{cast, cast_row}
 use Rattle.timecode.specs.Rate.{rate_text}
-use Rattle.station_tables_texts.specs.Plain.{keeps}
-use Rattle.station_tables_texts.proofs.StatementLemmas.{cast_null, cast_int}
+use Rattle.station_tables_records.specs.Plain.{keeps}
+use Rattle.station_tables_records.proofs.StatementLemmas.{cast_null, cast_int}
 use Rattle.umid.specs.BasicUmid.{basic_umid}
 use Rattle.vault_core.specs.declared.offer.Offer.{Offer}
-use Rattle.station_tables_texts.specs.Schema.{offer}
-use Rattle.station_tables_texts.proofs.Texts.{is_first_at, is_open_at, offer_columns}
-use Rattle.station_tables_texts.specs.Values.{of_nat, of_bool}
+use Rattle.station_tables_records.specs.Schema.{offer}
+use Rattle.station_tables_records.proofs.Texts.{is_first_at, is_open_at, offer_columns}
+use Rattle.station_tables_records.specs.Values.{of_nat, of_bool}
 use Rattle.station_tables_records.specs.OfferRows.{offer_of, offer_row, offer_table, is_offer_open, is_offer_to}
 use Rattle.station_tables_records.proofs.ColumnLemmas.{columns_are, column_is, has_put}
 use Rattle.station_tables_records.proofs.NumberedLemmas.{NumbersRows, numbered_rows}

@@ -3,13 +3,13 @@ use Rattle.std.proofs.Common.{◌≡◌, pos, [], ◌∷◌, refl, sym, ap, ◌�
 use Rattle.std.proofs.lemmas.Cmp.{int_cmp_total}
 use Rattle.sqlite_value.specs.declared.value.Value.TheVariants.{Int}
 use Rattle.sqlite_rules.specs.Edit.{id_in}
-use Rattle.station_tables_texts.specs.Table.{IsTable}
+use Rattle.station_tables_records.specs.Table.{IsTable}
 use Rattle.sqlite_value.specs.Order.{Row}
 use Rattle.sqlite_sql.specs.Term.{eval_all}
 use Rattle.sqlite_rules.specs.Cast.{cast_row}
-use Rattle.station_tables_texts.proofs.StatementLemmas.{cast_null, cast_int}
-use Rattle.station_tables_texts.specs.Schema.{office}
-use Rattle.station_tables_texts.proofs.Texts.{office_columns}
+use Rattle.station_tables_records.proofs.StatementLemmas.{cast_null, cast_int}
+use Rattle.station_tables_records.specs.Schema.{office}
+use Rattle.station_tables_records.proofs.Texts.{office_columns}
 use Rattle.station_tables_records.specs.OfficeRow.{IsOfficeRow, office_table, new_office_row, HasVersion}
 
 -- it is a table

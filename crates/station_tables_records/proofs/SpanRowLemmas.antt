@@ -4,13 +4,13 @@ use Rattle.sqlite_value.specs.declared.value.Value.TheVariants.{Null, Int}
 use Rattle.sqlite_value.specs.Order.{Row}
 use Rattle.sqlite_rules.specs.Cast.{cast_row}
 use Rattle.vault_core.specs.Window.{is_window}
-use Rattle.station_tables_rows.specs.declared.offer_rows.SpanRow.{SpanRow}
-use Rattle.station_tables_rows.specs.OfferRows.{span_cmp, is_span}
-use Rattle.station_tables_texts.specs.Plain.{keeps}
-use Rattle.station_tables_texts.proofs.StatementLemmas.{cast_null, cast_int}
-use Rattle.station_tables_texts.specs.Schema.{span}
-use Rattle.station_tables_texts.proofs.Texts.{are_both_at, span_columns}
-use Rattle.station_tables_texts.specs.Values.{of_nat}
+use Rattle.station_tables_records.specs.declared.offer_rows.SpanRow.{SpanRow}
+use Rattle.station_tables_records.specs.MadeOffers.{span_cmp, is_span}
+use Rattle.station_tables_records.specs.Plain.{keeps}
+use Rattle.station_tables_records.proofs.StatementLemmas.{cast_null, cast_int}
+use Rattle.station_tables_records.specs.Schema.{span}
+use Rattle.station_tables_records.proofs.Texts.{are_both_at, span_columns}
+use Rattle.station_tables_records.specs.Values.{of_nat}
 use Rattle.station_tables_records.specs.SpanRows.{span_of, span_row, IsSpanRow, span_table}
 use Rattle.station_tables_records.proofs.ColumnLemmas.{columns_are, has_put}
 use Rattle.station_tables_records.proofs.NumberedLemmas.{NumbersRows, numbered_rows, one_is, row_ties}

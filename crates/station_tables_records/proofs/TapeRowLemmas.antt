@@ -8,12 +8,12 @@ use Rattle.sqlite_schema.specs.declared.schema.Kind.TheVariants.{Integer}
 use Rattle.sqlite_rules.specs.Edit.{id_in}
 use Rattle.sqlite_rules.specs.Cast.{cast, cast_row}
 use Rattle.sqlite.specs.Values.{or_null}
-use Rattle.station_tables_texts.specs.Plain.{keeps}
-use Rattle.station_tables_texts.proofs.StatementLemmas.{cast_null, cast_int}
+use Rattle.station_tables_records.specs.Plain.{keeps}
+use Rattle.station_tables_records.proofs.StatementLemmas.{cast_null, cast_int}
 use Rattle.vault_core.specs.declared.tape.Tape.{Tape}
-use Rattle.station_tables_texts.specs.Schema.{tape}
-use Rattle.station_tables_texts.proofs.Texts.{are_both_at, tape_columns}
-use Rattle.station_tables_texts.specs.Values.{of_nat}
+use Rattle.station_tables_records.specs.Schema.{tape}
+use Rattle.station_tables_records.proofs.Texts.{are_both_at, tape_columns}
+use Rattle.station_tables_records.specs.Values.{of_nat}
 use Rattle.station_tables_records.specs.TapeRows.{tape_of, tape_row, tape_table, is_tape_with, is_tape_in}
 use Rattle.station_tables_records.proofs.ColumnLemmas.{columns_are, column_is, has_put}
 use Rattle.station_tables_records.proofs.NumberedLemmas.{NumbersRows, numbered_rows}

@@ -5,8 +5,8 @@ use Rattle.sqlite_schema.specs.declared.schema.Schema.{Schema}
 use Rattle.sqlite_schema.specs.declared.schema.Table.{Table}
 use Rattle.sqlite_keyed.proofs.ListLemmas.{all_weaker, all_both, all_of}
 use Rattle.sqlite.specs.State.{State}
-use Rattle.station_tables_texts.specs.Content.{IsTyped, content}
-use Rattle.station_tables_texts.specs.Table.{IsTypedIn, rows_in, ChangesTable}
+use Rattle.station_tables_records.specs.Content.{IsTyped, content}
+use Rattle.station_tables_records.specs.Table.{IsTypedIn, rows_in, ChangesTable}
 use Rattle.station_tables_records.specs.TwoTables.{TwoTables, ChangesBoth, IsAtBoth}
 
 -- the table's rows are as they were, if its tree is neither of these two

@@ -19,10 +19,10 @@ use Rattle.sqlite_sql.specs.declared.ops.CompareOp.TheVariants.{Eq, Ge, Le}
 use Rattle.sqlite_schema.specs.declared.schema.Kind.TheVariants.{Integer}
 use Rattle.sqlite_rules.specs.Cast.{cast}
 use Rattle.sqlite.specs.Values.{or_null, bound_value}
-use Rattle.station_tables_texts.proofs.StatementLemmas.{cast_null, cast_int}
-use Rattle.station_tables_texts.proofs.WriteLemmas.{turned_eq}
+use Rattle.station_tables_records.proofs.StatementLemmas.{cast_null, cast_int}
+use Rattle.station_tables_records.proofs.WriteLemmas.{turned_eq}
 use Rattle.vault_core.specs.Tape.{stands_in}
-use Rattle.station_tables_texts.specs.Values.{of_nat, maybe_nat_in, of_bool, bool_in}
+use Rattle.station_tables_records.specs.Values.{of_nat, maybe_nat_in, of_bool, bool_in}
 
 pub then-Equal : (o : Ordering) → ordering_then o Equal ≡ o
 then-Equal Less = refl

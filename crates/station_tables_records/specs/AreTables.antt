@@ -7,12 +7,12 @@ use Rattle.std.proofs.lemmas.Cmp.{then_total, on_total, nat_cmp_total}
 use Rattle.sqlite_value.specs.declared.value.Value.TheVariants.{Int}
 use Rattle.sqlite_rules.specs.Edit.{id_in}
 use Rattle.channel_plan.specs.declared.plan.PlanRow.{PlanRow}
-use Rattle.station_tables_rows.specs.declared.aired_rows.AiredLine.{AiredLine}
-use Rattle.station_tables_rows.specs.declared.aired_rows.BatchRow.{BatchRow}
-use Rattle.station_tables_rows.specs.declared.day_rows.ItemRow.{ItemRow}
-use Rattle.station_tables_rows.specs.AiredRows.{batch_cmp, line_cmp}
-use Rattle.station_tables_rows.specs.DayRows.{item_cmp}
-use Rattle.station_tables_texts.specs.Table.{IsTable}
+use Rattle.station_tables_records.specs.declared.aired_rows.AiredLine.{AiredLine}
+use Rattle.station_tables_records.specs.declared.aired_rows.BatchRow.{BatchRow}
+use Rattle.station_tables_records.specs.declared.day_rows.ItemRow.{ItemRow}
+use Rattle.station_tables_records.specs.MadeAirings.{batch_cmp, line_cmp}
+use Rattle.station_tables_records.specs.MadeDays.{item_cmp}
+use Rattle.station_tables_records.specs.Table.{IsTable}
 use Rattle.station_tables_records.specs.BatchRows.{batch_table}
 use Rattle.station_tables_records.specs.ChannelRows.{channel_cmp, channel_table}
 use Rattle.station_tables_records.specs.ClipRows.{clip_table}

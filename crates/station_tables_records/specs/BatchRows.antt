@@ -2,12 +2,12 @@
 use Rattle.std.specs.Prelude.{◌≡◌, ℕ, Bool, false, ◌&&◌, ◌^◌, nat_lt, List, [], ◌∷◌}
 use Rattle.std.specs.List.{AllByRecursion}
 use Rattle.sqlite_value.specs.Order.{Row, column}
-use Rattle.station_tables_rows.specs.declared.aired_rows.BatchRow.{BatchRow}
-use Rattle.station_tables_rows.specs.AiredRows.{batch_cmp, is_batch}
-use Rattle.station_tables_texts.specs.Table.{TypedTable}
-use Rattle.station_tables_texts.specs.Schema.{batch}
+use Rattle.station_tables_records.specs.declared.aired_rows.BatchRow.{BatchRow}
+use Rattle.station_tables_records.specs.MadeAirings.{batch_cmp, is_batch}
+use Rattle.station_tables_records.specs.Table.{TypedTable}
+use Rattle.station_tables_records.specs.Schema.{batch}
 use Rattle.station_tables_records.specs.Columns.{table_of}
-use Rattle.station_tables_texts.specs.Values.{of_nat, nat_in}
+use Rattle.station_tables_records.specs.Values.{of_nat, nat_in}
 
 abbrev pub batch_of : Row → ℕ × BatchRow
 batch_of r = (nat_in (column r 1), record { day = nat_in (column r 2); number = nat_in (column r 3) })

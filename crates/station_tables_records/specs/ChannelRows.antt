@@ -9,10 +9,10 @@ use Rattle.sqlite_value.specs.Order.{Row, column}
 use Rattle.timecode.specs.declared.rates.Rate.TheVariants.{F25}
 use Rattle.timecode.specs.Rate.{rate_text, rate_of_text}
 use Rattle.channel_plan.specs.declared.plan.PlanRow.{PlanRow}
-use Rattle.station_tables_texts.specs.Table.{TypedTable}
-use Rattle.station_tables_texts.specs.Schema.{channel}
+use Rattle.station_tables_records.specs.Table.{TypedTable}
+use Rattle.station_tables_records.specs.Schema.{channel}
 use Rattle.station_tables_records.specs.Columns.{table_at}
-use Rattle.station_tables_texts.specs.Values.{of_nat, nat_in, text_in}
+use Rattle.station_tables_records.specs.Values.{of_nat, nat_in, text_in}
 
 -- some rate, where the text is none
 abbrev pub channel_of : Row → PlanRow

@@ -7,11 +7,11 @@ use Rattle.sqlite_value.specs.Order.{Row, column}
 use Rattle.umid.specs.BasicUmid.{UmidParts, is_umid, basic_umid, parts_in}
 use Rattle.vault_core.specs.declared.clip.Clip.{Clip}
 use Rattle.vault_core.specs.Clip.{is_title, has_umid}
-use Rattle.station_tables_texts.specs.Table.{TypedTable}
-use Rattle.station_tables_texts.specs.Schema.{clip}
+use Rattle.station_tables_records.specs.Table.{TypedTable}
+use Rattle.station_tables_records.specs.Schema.{clip}
 use Rattle.station_tables_records.specs.Columns.{table_of}
 use Rattle.station_tables_records.specs.Numbered.{numbered_cmp, LacksNumber}
-use Rattle.station_tables_texts.specs.Values.{of_nat, nat_in, text_in, bytes_in, of_bool, bool_in}
+use Rattle.station_tables_records.specs.Values.{of_nat, nat_in, text_in, bytes_in, of_bool, bool_in}
 
 abbrev pub clip_of : Row → ℕ × Clip
 clip_of r = (

@@ -5,8 +5,8 @@ use Rattle.sqlite_value.specs.declared.value.Value.TheVariants.{Int}
 use Rattle.sqlite_value.specs.Order.{Row, column}
 use Rattle.sqlite_rules.specs.Edit.{id_in}
 use Rattle.sqlite_schema.specs.declared.schema.Table.{Table}
-use Rattle.station_tables_texts.specs.Table.{TypedTable}
-use Rattle.station_tables_texts.specs.Schema.{centre_schema}
+use Rattle.station_tables_records.specs.Table.{TypedTable}
+use Rattle.station_tables_records.specs.Schema.{centre_schema}
 
 -- These values stand in a row side by side, from column n on.
 abbrev pub HasValues : ℕ → Row → Row → Type 0

@@ -2,13 +2,13 @@
 -- sealed. Sealed is 1 or 0.
 use Rattle.std.specs.Prelude.{ℕ, Bool, ◌&&◌, ◌^◌, nat_lt, List, [], ◌∷◌}
 use Rattle.sqlite_value.specs.Order.{Row, column}
-use Rattle.station_tables_rows.specs.declared.day_rows.DayRow.{DayRow}
-use Rattle.station_tables_rows.specs.DayRows.{day_cmp}
-use Rattle.station_tables_texts.specs.Table.{TypedTable}
-use Rattle.station_tables_texts.specs.Schema.{day}
+use Rattle.station_tables_records.specs.declared.day_rows.DayRow.{DayRow}
+use Rattle.station_tables_records.specs.MadeDays.{day_cmp}
+use Rattle.station_tables_records.specs.Table.{TypedTable}
+use Rattle.station_tables_records.specs.Schema.{day}
 use Rattle.station_tables_records.specs.Columns.{table_of}
 use Rattle.station_tables_records.specs.Numbered.{LacksNumber}
-use Rattle.station_tables_texts.specs.Values.{of_nat, nat_in, of_bool, bool_in}
+use Rattle.station_tables_records.specs.Values.{of_nat, nat_in, of_bool, bool_in}
 
 abbrev pub day_of : Row → ℕ × DayRow
 day_of r = (nat_in (column r 1), record { number = nat_in (column r 2); sealed = bool_in (column r 3) })

@@ -7,12 +7,12 @@ use Rattle.playlist_core.specs.declared.source.Source.TheVariants.{Black}
 use Rattle.playlist_core.specs.declared.item.EditKind.TheVariants.{Cut}
 use Rattle.playlist_core.specs.Source.{source_reel, source_of_reel}
 use Rattle.playlist_core.specs.Item.{kind_text, kind_of}
-use Rattle.station_tables_rows.specs.declared.day_rows.ItemRow.{ItemRow}
-use Rattle.station_tables_rows.specs.DayRows.{item_cmp, has_texts}
-use Rattle.station_tables_texts.specs.Table.{TypedTable}
-use Rattle.station_tables_texts.specs.Schema.{item}
+use Rattle.station_tables_records.specs.declared.day_rows.ItemRow.{ItemRow}
+use Rattle.station_tables_records.specs.MadeDays.{item_cmp, has_texts}
+use Rattle.station_tables_records.specs.Table.{TypedTable}
+use Rattle.station_tables_records.specs.Schema.{item}
 use Rattle.station_tables_records.specs.Columns.{table_of}
-use Rattle.station_tables_texts.specs.Values.{of_nat, nat_in, text_in}
+use Rattle.station_tables_records.specs.Values.{of_nat, nat_in, text_in}
 
 -- black, or a cut, where the text is none
 abbrev pub item_of : Row → ℕ × ItemRow

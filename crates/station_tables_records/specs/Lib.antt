@@ -1,3 +1,14 @@
+pub mod Plain
+pub mod Content
+pub mod Table
+pub mod Asking
+pub mod RowReading
+pub mod Inside
+pub mod Schema
+pub mod Values
+pub mod MadeDays
+pub mod MadeAirings
+pub mod MadeOffers
 pub mod Columns
 pub mod Numbered
 pub mod TapeRows

@@ -4,12 +4,12 @@ use Rattle.std.specs.Prelude.{◌≡◌, ℕ, Bool, true, ◌&&◌, ◌^◌, nat
 use Rattle.sqlite_value.specs.declared.value.Value.TheVariants.{Text as Words}
 use Rattle.sqlite_value.specs.Order.{Row, column}
 use Rattle.asrun_match.specs.Aired.{is_row_reel}
-use Rattle.station_tables_rows.specs.declared.aired_rows.AiredLine.{AiredLine}
-use Rattle.station_tables_rows.specs.AiredRows.{line_cmp}
-use Rattle.station_tables_texts.specs.Table.{TypedTable}
-use Rattle.station_tables_texts.specs.Schema.{aired}
+use Rattle.station_tables_records.specs.declared.aired_rows.AiredLine.{AiredLine}
+use Rattle.station_tables_records.specs.MadeAirings.{line_cmp}
+use Rattle.station_tables_records.specs.Table.{TypedTable}
+use Rattle.station_tables_records.specs.Schema.{aired}
 use Rattle.station_tables_records.specs.Columns.{HasColumns, table_at}
-use Rattle.station_tables_texts.specs.Values.{of_nat, nat_in, text_in}
+use Rattle.station_tables_records.specs.Values.{of_nat, nat_in, text_in}
 
 abbrev pub line_of : Row → ℕ × AiredLine
 line_of r = (

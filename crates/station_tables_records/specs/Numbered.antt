@@ -4,7 +4,7 @@ use Rattle.std.specs.declared.cmp.Ordering.{Ordering}
 use Rattle.std.specs.Ordering.{nat_cmp, ordering_then}
 use Rattle.std.specs.List.{AllByRecursion}
 use Rattle.sqlite_value.specs.Order.{Row}
-use Rattle.station_tables_texts.specs.Values.{of_nat}
+use Rattle.station_tables_records.specs.Values.{of_nat}
 
 -- by channel, and then by number
 abbrev pub numbered_cmp : {A : Type 0} → (A → ℕ) → ℕ × A → ℕ × A → Ordering

@@ -11,11 +11,11 @@ use Rattle.umid.specs.BasicUmid.{is_umid, basic_umid, parts_in}
 use Rattle.vault_core.specs.declared.offer.Offer.{Offer}
 use Rattle.vault_core.specs.Clip.{is_title}
 use Rattle.vault_core.specs.Offer.{is_open_to}
-use Rattle.station_tables_texts.specs.Table.{TypedTable}
-use Rattle.station_tables_texts.specs.Schema.{offer}
+use Rattle.station_tables_records.specs.Table.{TypedTable}
+use Rattle.station_tables_records.specs.Schema.{offer}
 use Rattle.station_tables_records.specs.Columns.{table_of}
 use Rattle.station_tables_records.specs.Numbered.{numbered_cmp, LacksNumber}
-use Rattle.station_tables_texts.specs.Values.{of_nat, nat_in, text_in, bytes_in, of_bool, bool_in}
+use Rattle.station_tables_records.specs.Values.{of_nat, nat_in, text_in, bytes_in, of_bool, bool_in}
 
 -- some rate, where the text is none
 abbrev pub offer_of : Row → ℕ × Offer

@@ -4,10 +4,10 @@ use Rattle.std.specs.Prelude.{◌≡◌, ℤ, pos, List, [], ◌∷◌}
 use Rattle.sqlite_value.specs.declared.value.Value.TheVariants.{Null, Int}
 use Rattle.sqlite_value.specs.Order.{Row, column}
 use Rattle.std.specs.Ordering.{int_cmp}
-use Rattle.station_tables_texts.specs.Table.{TypedTable}
-use Rattle.station_tables_texts.specs.Schema.{office}
+use Rattle.station_tables_records.specs.Table.{TypedTable}
+use Rattle.station_tables_records.specs.Schema.{office}
 use Rattle.station_tables_records.specs.Columns.{table_at}
-use Rattle.station_tables_texts.specs.Values.{int_in}
+use Rattle.station_tables_records.specs.Values.{int_in}
 
 abbrev pub version_of : Row → ℤ
 version_of r = int_in (column r 2)

@@ -3,12 +3,12 @@
 use Rattle.std.specs.Prelude.{◌≡◌, ℕ, Bool, true, ◌&&◌, nat_lt, [], ◌∷◌}
 use Rattle.sqlite_value.specs.Order.{Row, column}
 use Rattle.vault_core.specs.Window.{is_window}
-use Rattle.station_tables_rows.specs.declared.offer_rows.SpanRow.{SpanRow}
-use Rattle.station_tables_rows.specs.OfferRows.{span_cmp}
-use Rattle.station_tables_texts.specs.Table.{TypedTable}
-use Rattle.station_tables_texts.specs.Schema.{span}
+use Rattle.station_tables_records.specs.declared.offer_rows.SpanRow.{SpanRow}
+use Rattle.station_tables_records.specs.MadeOffers.{span_cmp}
+use Rattle.station_tables_records.specs.Table.{TypedTable}
+use Rattle.station_tables_records.specs.Schema.{span}
 use Rattle.station_tables_records.specs.Columns.{HasColumns, table_at}
-use Rattle.station_tables_texts.specs.Values.{of_nat, nat_in}
+use Rattle.station_tables_records.specs.Values.{of_nat, nat_in}
 
 abbrev pub span_of : Row → ℕ × SpanRow
 span_of r = (

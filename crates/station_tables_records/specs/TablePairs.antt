@@ -2,15 +2,15 @@
 -- windows.
 use Rattle.std.specs.Prelude.{ℕ, List}
 use Rattle.sqlite_trees.specs.Tree.{Trees}
-use Rattle.station_tables_rows.specs.declared.day_rows.DayRow.{DayRow}
-use Rattle.station_tables_rows.specs.declared.day_rows.ItemRow.{ItemRow}
-use Rattle.station_tables_rows.specs.DayRows.{DaySet}
-use Rattle.station_tables_rows.specs.declared.aired_rows.BatchRow.{BatchRow}
-use Rattle.station_tables_rows.specs.declared.aired_rows.AiredLine.{AiredLine}
-use Rattle.station_tables_rows.specs.AiredRows.{AiredSet}
+use Rattle.station_tables_records.specs.declared.day_rows.DayRow.{DayRow}
+use Rattle.station_tables_records.specs.declared.day_rows.ItemRow.{ItemRow}
+use Rattle.station_tables_records.specs.MadeDays.{DaySet}
+use Rattle.station_tables_records.specs.declared.aired_rows.BatchRow.{BatchRow}
+use Rattle.station_tables_records.specs.declared.aired_rows.AiredLine.{AiredLine}
+use Rattle.station_tables_records.specs.MadeAirings.{AiredSet}
 use Rattle.vault_core.specs.declared.offer.Offer.{Offer}
-use Rattle.station_tables_rows.specs.declared.offer_rows.SpanRow.{SpanRow}
-use Rattle.station_tables_rows.specs.OfferRows.{OfferSet}
+use Rattle.station_tables_records.specs.declared.offer_rows.SpanRow.{SpanRow}
+use Rattle.station_tables_records.specs.MadeOffers.{OfferSet}
 use Rattle.station_tables_records.specs.DayRows.{day_table}
 use Rattle.station_tables_records.specs.ItemRows.{item_table}
 use Rattle.station_tables_records.specs.BatchRows.{batch_table}

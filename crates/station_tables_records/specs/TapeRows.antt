@@ -7,11 +7,11 @@ use Rattle.sqlite_value.specs.Order.{Row, column}
 use Rattle.sqlite.specs.Values.{or_null}
 use Rattle.vault_core.specs.declared.tape.Tape.{Tape}
 use Rattle.vault_core.specs.Tape.{is_barcode, stands_in}
-use Rattle.station_tables_texts.specs.Table.{TypedTable}
-use Rattle.station_tables_texts.specs.Schema.{tape}
+use Rattle.station_tables_records.specs.Table.{TypedTable}
+use Rattle.station_tables_records.specs.Schema.{tape}
 use Rattle.station_tables_records.specs.Columns.{table_of}
 use Rattle.station_tables_records.specs.Numbered.{numbered_cmp, LacksNumber}
-use Rattle.station_tables_texts.specs.Values.{of_nat, nat_in, text_in, maybe_nat_in}
+use Rattle.station_tables_records.specs.Values.{of_nat, nat_in, text_in, maybe_nat_in}
 
 abbrev pub tape_of : Row → ℕ × Tape
 tape_of r = (

@@ -5,7 +5,7 @@ use Rattle.std.specs.List.{AllByRecursion}
 use Rattle.sqlite_trees.specs.Tree.{Trees}
 use Rattle.sqlite.specs.Effect.{Database, IsDatabase}
 use Rattle.sqlite.specs.State.{State, HasCleanDisk, Shows}
-use Rattle.station_tables_texts.specs.Table.{TypedTable, rows_in, IsTypedIn}
+use Rattle.station_tables_records.specs.Table.{TypedTable, rows_in, IsTypedIn}
 
 -- The two, and one value of the rows of both.
 pub record TwoTables (A B C : Type 0) : Type 1 where

@@ -7,11 +7,12 @@ ghost use Rattle.station_tables_records.specs.BatchRows.{batch_fits, batch_table
 ghost use Rattle.station_tables_records.specs.LineRows.{line_fits, line_table};
 ghost use Rattle.station_tables_records.specs.AreTables.{batch_table_is, line_table_is};
 
+use crate::aired_rows::{AiredLine, BatchRow};
 use crate::cells::{int_at, text_at, u16_at, u32_at};
+use crate::reels::reel_in;
 use crate::stored::StoredRow;
 use asrun_match::{AiredRow, Reel};
 use sqlite::Row;
-use station_tables_rows::{AiredLine, BatchRow, reel_in};
 
 /// The channel and the batch of a row that shows rowid, ch, day and n, or `None` where the row isn't one of a batch: a
 /// number that isn't one or has too many bits.

@@ -4,8 +4,8 @@ ghost use Rattle.std.specs.declared.cmp.Ordering.TheVariants.{Less};
 ghost use Rattle.sqlite_trees.specs.Tree.{IsAscending};
 ghost use Rattle.sqlite.specs.State.{HasCleanDisk};
 ghost use Rattle.sqlite.specs.Values.{bound};
-ghost use Rattle.station_tables_texts.specs.Inside.{inside, Reads};
-ghost use Rattle.station_tables_texts.specs.Asking.{IsReading, Answers, AnswersNone, FailsToAsk};
+ghost use Rattle.station_tables_records.specs.Inside.{inside, Reads};
+ghost use Rattle.station_tables_records.specs.Asking.{IsReading, Answers, AnswersNone, FailsToAsk};
 
 use crate::stored::{StoredRow, read_rows};
 use sqlite::types::ValueRef;

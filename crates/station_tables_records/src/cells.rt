@@ -9,7 +9,7 @@ ghost use Rattle.timecode.specs.Rate.{rate_text};
 ghost use Rattle.vault_core.specs.Tape.{is_barcode};
 ghost use Rattle.umid.specs.BasicUmid.{UmidParts, basic_umid, is_umid};
 ghost use Rattle.vault_core.specs.Clip.{is_title};
-ghost use Rattle.station_tables_texts.specs.Values.{of_nat, of_bool};
+ghost use Rattle.station_tables_records.specs.Values.{of_nat, of_bool};
 ghost use Rattle.station_tables_records.specs.TapeRows.{slot_fits};
 
 use sqlite::Row;

@@ -6,17 +6,18 @@ ghost use Rattle.playlist_core.specs.declared.source.Source.{Source};
 ghost use Rattle.playlist_core.specs.declared.item.EditKind.{EditKind};
 ghost use Rattle.playlist_core.specs.Source.{source_reel, source_of_reel};
 ghost use Rattle.playlist_core.specs.Item.{kind_text, kind_of, is_kind};
-ghost use Rattle.station_tables_rows.specs.DayRows.{is_source};
-ghost use Rattle.station_tables_texts.specs.Values.{text_in};
+ghost use Rattle.station_tables_records.specs.MadeDays.{is_source};
+ghost use Rattle.station_tables_records.specs.Values.{text_in};
 ghost use Rattle.station_tables_records.specs.ItemRows.{item_fits, item_table};
 ghost use Rattle.station_tables_records.specs.DayRows.{day_fits, day_table};
 ghost use Rattle.station_tables_records.specs.AreTables.{day_table_is, item_table_is};
 
 use crate::cells::{bool_at, int_at, text_at, u16_at, u32_at};
+use crate::day_rows::{DayRow, ItemRow};
+use crate::item_texts::{kind_in, source_in};
 use crate::stored::StoredRow;
 use playlist_core::{EditKind, Item, Source};
 use sqlite::Row;
-use station_tables_rows::{DayRow, ItemRow, kind_in, source_in};
 
 /// The channel and the day of a row that shows rowid, ch, day and sealed, or `None` where the row isn't one of a day: a
 /// number that isn't one or has too many bits, another number than 1 or 0 for whether it is sealed.

@@ -12,10 +12,10 @@ ghost use Rattle.station_tables_records.specs.AreTables.{span_table_is, channel_
 use crate::cells::{
     barcode_at, bool_at, int_at, maybe_u16_at, rate_at, title_at, u16_at, u32_at, umid_at,
 };
+use crate::offer_rows::SpanRow;
 use crate::stored::StoredRow;
 use channel_plan::PlanRow;
 use sqlite::Row;
-use station_tables_rows::SpanRow;
 use vault_core::{Clip, Offer, Tape, Window};
 
 /// The channel and the tape of a row that shows rowid, ch, n, barcode and slot, or `None` where the row isn't one of a

@@ -1,10 +1,10 @@
 //! What a row of a table stands for, read from its columns.
 ghost use Rattle.std.specs.Prelude.{◌≡◌, Bool, false, IfOk, IfSome, IfNone};
 ghost use Rattle.std.specs.Ordering.{is_lt};
-ghost use Rattle.station_tables_texts.specs.Table.{TypedTable, IsTable, ReadAs, ReadAsNone};
+ghost use Rattle.station_tables_records.specs.Table.{TypedTable, IsTable, ReadAs, ReadAsNone};
 
+use crate::reading::read_in_order;
 use sqlite::Row;
-use station_tables_texts::read_in_order;
 use std::alloc::{AllocError, Global};
 
 /// What a row of a table stands for: a tape with its channel, and its like.

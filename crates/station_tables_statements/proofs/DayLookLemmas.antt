@@ -9,7 +9,7 @@ use Rattle.channel_plan.specs.declared.plan.PlanRow.{PlanRow}
 use Rattle.playlist_core.specs.Day.{Day, KeepsDayRules}
 use Rattle.channel_view_model.specs.Tables.{of_channel, rows_of}
 use Rattle.channel_view_model.specs.Days.{no_day, day_or, day_at}
-use Rattle.station_tables_rows.specs.DayRows.{is_made_in}
+use Rattle.station_tables_records.specs.MadeDays.{is_made_in}
 use Rattle.station_tables_records.specs.TwoTables.{HasBothNow}
 use Rattle.station_tables_records.specs.TablePairs.{aired_tables, day_tables}
 use Rattle.station_tables_statements.specs.Calls.{HasCentre}

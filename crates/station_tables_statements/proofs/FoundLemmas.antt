@@ -6,14 +6,14 @@ use Rattle.sqlite_value.specs.Order.{Row}
 use Rattle.sqlite_trees.specs.declared.store.Store.{Ghosts}
 use Rattle.sqlite.specs.declared.transaction.Transaction.{Transaction}
 use Rattle.sqlite.specs.State.{State, HasCleanDisk, Shown}
-use Rattle.station_tables_texts.specs.Inside.{inside, Reads}
-use Rattle.station_tables_texts.specs.Asking.{Answers, IsReading}
-use Rattle.station_tables_texts.specs.Table.{TypedTable, IsTypedIn, rows_in}
-use Rattle.station_tables_schema.proofs.ViewLemmas.{first_found}
+use Rattle.station_tables_records.specs.Inside.{inside, Reads}
+use Rattle.station_tables_records.specs.Asking.{Answers, IsReading}
+use Rattle.station_tables_records.specs.Table.{TypedTable, IsTypedIn, rows_in}
+use Rattle.station_tables_statements.proofs.ViewLemmas.{first_found}
 use Rattle.station_tables_records.proofs.NumberedLemmas.{Columns, NumbersRows, shows_all, shows_page, shows_one}
 use Rattle.station_tables_records.proofs.NumberedLemmas.{last_shown}
-use Rattle.station_tables_texts.proofs.AskLemmas.{asked_as}
-use Rattle.station_tables_texts.proofs.AsksNumbered.{AsksNumbered}
+use Rattle.station_tables_records.proofs.AskLemmas.{asked_as}
+use Rattle.station_tables_records.proofs.AsksNumbered.{AsksNumbered}
 use Rattle.station_tables_statements.specs.declared.numbered.Question.{Question}
 use Rattle.station_tables_statements.specs.declared.numbered.Question.TheVariants.{All, Page, Last, Number}
 use Rattle.station_tables_statements.specs.Asked.{text_of, params_of}

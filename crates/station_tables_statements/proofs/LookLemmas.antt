@@ -8,7 +8,7 @@ use Rattle.sqlite.specs.State.{HasCleanDisk, IsUnchanged}
 use Rattle.sqlite.proofs.Callers.{unchanged_then}
 use Rattle.sqlite.proofs.InsideLemmas.{keeps_then}
 use Rattle.sqlite.proofs.StateLemmas.{survives_then}
-use Rattle.station_tables_texts.specs.Inside.{inside, Reads, Looks, IsSame}
+use Rattle.station_tables_records.specs.Inside.{inside, Reads, Looks, IsSame}
 use Rattle.channel_view_model.specs.Centre.{Centre}
 use Rattle.station_tables_statements.specs.Calls.{HasCentre, WhileCleanCentre, set_in}
 use Rattle.station_tables_statements.specs.Calls.{OwnsRowsNow}

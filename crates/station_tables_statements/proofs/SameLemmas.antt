@@ -2,10 +2,8 @@
 use Rattle.std.proofs.Common.{◌≡◌, sym, ap, ◌∙◌, subst}
 use Rattle.sqlite.specs.Effect.{Database}
 use Rattle.sqlite.specs.State.{State, HasCleanDisk, IsUnchanged}
-use Rattle.station_tables_schema.specs.Rows.{IsCentre, OwnsRows, rows_of_tables}
-use Rattle.station_tables_schema.specs.Calls.{HasCentreSchema}
-use Rattle.station_tables_statements.specs.Calls.{HasCentre, set_in}
-use Rattle.station_tables_statements.specs.Calls.{OwnsRowsNow}
+use Rattle.station_tables_statements.specs.Rows.{IsCentre, OwnsRows, rows_of_tables}
+use Rattle.station_tables_statements.specs.Calls.{HasCentreSchema, HasCentre, set_in, OwnsRowsNow}
 
 -- what was unchanged holds what it held
 module _ (old new : State) (same : IsUnchanged old new) where

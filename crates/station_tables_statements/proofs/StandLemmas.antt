@@ -2,7 +2,7 @@
 use Rattle.std.proofs.Common.{◌≡◌, Result, Ok, Err, OnOk, IfOk, sym, ◌∙◌, subst}
 use Rattle.sqlite.specs.State.{State}
 use Rattle.channel_view_model.specs.Centre.{Centre}
-use Rattle.station_tables_schema.specs.Rows.{HoldsSet, Stands, StandsFor}
+use Rattle.station_tables_statements.specs.Rows.{HoldsSet, Stands, StandsFor}
 use Rattle.station_tables_statements.specs.Calls.{HasCentre}
 
 pub keeps_centre : (s : State) (rows : Centre) → StandsFor s rows → HasCentre s

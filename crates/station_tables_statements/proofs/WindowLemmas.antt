@@ -7,14 +7,14 @@ use Rattle.sqlite_trees.specs.declared.store.Store.{Ghosts}
 use Rattle.sqlite.specs.declared.transaction.Transaction.{Transaction}
 use Rattle.sqlite.specs.Effect.{Database}
 use Rattle.sqlite.specs.Held.{state}
-use Rattle.station_tables_texts.specs.Inside.{inside, IsSame, Looks, Reads}
+use Rattle.station_tables_records.specs.Inside.{inside, IsSame, Looks, Reads}
 use Rattle.station_tables_records.specs.TablePairs.{offer_rows_in}
 use Rattle.vault_core.specs.declared.offer.Offer.{Offer}
-use Rattle.station_tables_rows.specs.declared.offer_rows.SpanRow.{SpanRow}
-use Rattle.station_tables_rows.specs.OfferRows.{OfferSet, offer_made, offers_made}
+use Rattle.station_tables_records.specs.declared.offer_rows.SpanRow.{SpanRow}
+use Rattle.station_tables_records.specs.MadeOffers.{OfferSet, offer_made, offers_made}
 use Rattle.station_tables_records.specs.Numbered.{is_of, is_on_page, is_row}
-use Rattle.station_tables_schema.specs.Rows.{offers_in}
-use Rattle.station_tables_rows.proofs.OfferLemmas.{made_kept}
+use Rattle.station_tables_statements.specs.Rows.{offers_in}
+use Rattle.station_tables_records.proofs.OfferLemmas.{made_kept}
 use Rattle.station_tables_statements.specs.declared.numbered.Question.{Question}
 use Rattle.station_tables_statements.specs.declared.numbered.Question.TheVariants.{All, Page, Last, Number}
 use Rattle.station_tables_statements.specs.Numbered.{found_by}

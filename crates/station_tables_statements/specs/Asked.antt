@@ -1,10 +1,10 @@
 -- The texts that ask a table for the numbered rows of a channel, by question.
 use Rattle.std.specs.Prelude.{ℕ, ◌+◌, ◌*◌, List, [], ◌∷◌}
 use Rattle.sqlite_value.specs.Order.{Row}
-use Rattle.station_tables_texts.proofs.Texts.{tapes_of_text, tape_page_text, last_tape_text, tape_numbered_text}
-use Rattle.station_tables_texts.proofs.Texts.{clips_of_text, clip_page_text, last_clip_text, clip_numbered_text}
-use Rattle.station_tables_texts.proofs.Texts.{offers_of_text, offer_page_text, last_offer_text, offer_numbered_text}
-use Rattle.station_tables_texts.specs.Values.{of_nat}
+use Rattle.station_tables_records.proofs.Texts.{tapes_of_text, tape_page_text, last_tape_text, tape_numbered_text}
+use Rattle.station_tables_records.proofs.Texts.{clips_of_text, clip_page_text, last_clip_text, clip_numbered_text}
+use Rattle.station_tables_records.proofs.Texts.{offers_of_text, offer_page_text, last_offer_text, offer_numbered_text}
+use Rattle.station_tables_records.specs.Values.{of_nat}
 use Rattle.station_tables_statements.specs.declared.numbered.Question.{Question}
 use Rattle.station_tables_statements.specs.declared.numbered.Question.TheVariants.{All, Page, Last, Number}
 

@@ -1,5 +1,5 @@
 -- What a call inside a transaction says of the tables of a centre, and of the rows in them.
-use Rattle.std.specs.Prelude.{◌≡◌, ℕ, Result, OnOk, IsTrue, []}
+use Rattle.std.specs.Prelude.{◌≡◌, ◌⊎◌, ℕ, Result, OnOk, IsTrue, []}
 use Rattle.sqlite_trees.specs.declared.store.Store.{Ghosts}
 use Rattle.sqlite.specs.declared.transaction.Transaction.{Transaction}
 use Rattle.sqlite.specs.State.{State, HasCleanDisk}
@@ -8,16 +8,37 @@ use Rattle.vault_core.specs.declared.tape.Tape.{Tape}
 use Rattle.vault_core.specs.declared.clip.Clip.{Clip}
 use Rattle.vault_core.specs.declared.offer.Offer.{Offer}
 use Rattle.channel_view_model.specs.Centre.{Centre}
-use Rattle.station_tables_texts.specs.Inside.{inside}
-use Rattle.station_tables_texts.specs.Table.{LacksKeyOf}
+use Rattle.station_tables_records.specs.Inside.{inside}
+use Rattle.station_tables_records.specs.Schema.{first_schema, centre_schema}
+use Rattle.station_tables_records.specs.Table.{LacksKeyOf}
 use Rattle.station_tables_records.specs.ChannelRows.{channel_table}
 use Rattle.station_tables_records.specs.TapeRows.{LacksTape}
 use Rattle.station_tables_records.specs.ClipRows.{LacksClip}
 use Rattle.station_tables_records.specs.OfferRows.{LacksOffer}
 use Rattle.station_tables_records.specs.TablePairs.{offer_rows_in}
-use Rattle.station_tables_rows.specs.OfferRows.{LacksSpan}
-use Rattle.station_tables_schema.specs.Rows.{channels_in, tapes_in, clips_in, rows_of_tables, IsCentre, OwnsRows}
-use Rattle.station_tables_schema.specs.Rows.{Changes}
+use Rattle.station_tables_records.specs.MadeOffers.{LacksSpan}
+use Rattle.station_tables_statements.specs.Rows.{channels_in, tapes_in, clips_in, rows_of_tables, IsCentre, OwnsRows}
+use Rattle.station_tables_statements.specs.Rows.{Changes}
+
+-- While the disk is clean and the store open, the tables are those that a centre has.
+abbrev pub HasCentreSchema : State → Type 0
+HasCentreSchema s = HasCleanDisk s → IsTrue s.is_open → s.now.schema ≡ centre_schema
+
+-- Of a call inside a transaction, on a database with a centre's tables, while the disk is clean.
+abbrev pub WhileCleanTables : {S : Type 0} → Ghosts S → Transaction S → Transaction S → Type 0 → Type 0
+WhileCleanTables g old new P = HasCentreSchema (inside g old) → HasCleanDisk (inside g new) → P
+
+-- While the disk is clean and the store open, the tables are those that a centre of version 1 has.
+abbrev pub HasFirstSchema : State → Type 0
+HasFirstSchema s = HasCleanDisk s → IsTrue s.is_open → s.now.schema ≡ first_schema
+
+-- While the disk is clean and the store open, the tables are those that a centre has, of this version or of version 1.
+abbrev pub HasKnownSchema : State → Type 0
+HasKnownSchema s = HasCleanDisk s → IsTrue s.is_open → (s.now.schema ≡ centre_schema) ⊎ (s.now.schema ≡ first_schema)
+
+-- Of a call inside a transaction, on a database with the tables of a centre of either version, while the disk is clean.
+abbrev pub WhileKnownTables : {S : Type 0} → Ghosts S → Transaction S → Transaction S → Type 0 → Type 0
+WhileKnownTables g old new P = HasKnownSchema (inside g old) → HasCleanDisk (inside g new) → P
 
 -- the set that a connection's tables hold
 abbrev pub set_in : State → Centre

@@ -1,4 +1,10 @@
+pub mod Rows
+pub mod First
+pub mod AiredCalls
+pub mod DayCalls
 pub mod Calls
 pub mod Numbered
 pub mod Asked
 pub mod Standing
+pub mod ByChannel
+pub mod AreByChannel

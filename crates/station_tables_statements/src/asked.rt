@@ -1,11 +1,12 @@
 //! The values that a text asks for, of one channel.
 ghost use Rattle.std.specs.Prelude.{◌≡◌, ◌+◌, ◌*◌, [], ◌∷◌};
+ghost use Rattle.sqlite_value.specs.declared.value.Value.TheVariants.{Int};
 ghost use Rattle.sqlite.specs.Values.{bound};
-ghost use Rattle.station_tables_texts.specs.Values.{of_nat};
+ghost use Rattle.station_tables_records.specs.Values.{of_nat};
 
 use crate::numbered::PAGE;
 use sqlite::types::ValueRef;
-use station_tables_texts::{long_number, short_number};
+use station_tables_records::{long_number, short_number};
 
 /// What a text asks of a row or a slot of one channel, by its number.
 pub(crate) fn of_number(channel: u16, n: u32) -> [ValueRef<'static>; 2]
@@ -26,4 +27,18 @@ pub(crate) fn of_page(channel: u16, page: u32) -> [ValueRef<'static>; 3]
         ValueRef::Int(first),
         ValueRef::Int(last),
     ]
+}
+
+/// What a text asks of a channel's days, from one number to another.
+pub(crate) fn of_days(channel: u16, first: u32, last: u32) -> [ValueRef<'static>; 3]
+    ensures { bound result ≡ of_nat channel ∷ of_nat first ∷ of_nat last ∷ [] }
+{
+    [short_number(channel), long_number(first), long_number(last)]
+}
+
+/// What a text asks of a day of a channel.
+pub(crate) fn of_day(channel: u16, day: u32) -> [ValueRef<'static>; 2]
+    ensures { bound result ≡ of_nat channel ∷ of_nat day ∷ [] }
+{
+    [short_number(channel), long_number(day)]
 }

@@ -1,5 +1,5 @@
 //! The rows of clips: what is asked of them and written, each by a text of its own, inside a transaction.
-ghost use Rattle.std.specs.Prelude.{◌≡◌, ◌==◌, [], ◌∷◌, true, IfOk};
+ghost use Rattle.std.specs.Prelude.{◌≡◌, ◌==◌, [], ◌∷◌, IfOk, true};
 ghost use Rattle.std.specs.Option.{option_and_then};
 ghost use Rattle.sqlite_value.specs.declared.value.Value.TheVariants.{Blob as Bytes};
 ghost use Rattle.sqlite_keyed.specs.Lists.{insert_sorted};
@@ -7,23 +7,35 @@ ghost use Rattle.sqlite.specs.Values.{bound};
 ghost use Rattle.umid.specs.BasicUmid.{basic_umid};
 ghost use Rattle.vault_core.specs.Clip.{has_umid};
 ghost use Rattle.channel_view_model.specs.Tables.{alter_row, of_channel};
-ghost use Rattle.station_tables_texts.specs.Inside.{inside, Looks, Writes};
-ghost use Rattle.station_tables_texts.specs.Values.{of_nat};
+ghost use Rattle.station_tables_records.specs.Inside.{inside, Writes, Looks};
+ghost use Rattle.station_tables_records.specs.Values.{of_nat};
 ghost use Rattle.station_tables_records.specs.ClipRows.{clip_row, clip_cmp};
-ghost use Rattle.station_tables_schema.specs.Rows.{on_clips};
+ghost use Rattle.station_tables_statements.specs.Rows.{on_clips};
+ghost use Rattle.station_tables_statements.specs.Calls.{WhileCleanCentre, Makes, set_in, LacksClipNow};
 ghost use Rattle.station_tables_statements.specs.Asked.{clip_text_of};
-ghost use Rattle.station_tables_statements.specs.Calls.{WhileCleanCentre, Makes, LacksClipNow, set_in};
 
 use crate::asked::of_number;
+use crate::asking::{StoredTable, find_rows};
+use crate::columns::{numbered_text, table_text};
 use crate::numbered::{AskedRow, NumberedRow, Question, find_asked, first_alone};
 use sqlite::types::ValueRef;
 use sqlite::{Alter, Error, Transaction};
-use station_tables_schema::find_rows;
-use station_tables_texts::{long_number, short_number, truth};
+use station_tables_records::{ask, long_number, of_channel, short_number, truth};
 use std::alloc::Global;
 use timecode::Unavailable;
 use umid::Umid;
 use vault_core::Clip;
+
+// The texts that name the columns of `clip`.
+macro_rules! clip_text {
+    ($text:ident $($rest:literal)?) => {
+        table_text!(
+            $text "clip"
+            "ch, n, tape, title, umid, src_first, frames, retired"
+            "?1, ?2, ?3, ?4, ?5, ?6, ?7, ?8" $($rest)?
+        )
+    };
+}
 
 // What a text asks of a UMID of one channel, by its bytes.
 fn of_bytes(channel: u16, umid: &[u8]) -> [ValueRef<'_>; 2]
@@ -48,28 +60,22 @@ fn clip_values<'a>(channel: u16, clip: &'a Clip, umid: &'a [u8]) -> [ValueRef<'a
     ]
 }
 
+/// By channel and number: of each the rowid, the channel, the number, its tape's number, the title, the UMID's 32
+/// bytes, its first frame and its length on the tape in frames, and 1 where it is retired, else 0.
+impl StoredTable for (u16, Clip) {
+    fn ask_all<S: Alter>(
+        alloc: Global,
+        tx: &mut Transaction<'_, S>,
+    ) -> Result<Option<Vec<(u16, Clip)>>, Error> {
+        ask(alloc, tx, clip_text!(SELECT "ORDER BY ch, n"), &[])
+    }
+}
+
 impl AskedRow for (u16, Clip) {
     ghost texts = { clip_text_of };
 
     fn text(question: Question) -> &'static str {
-        match question {
-            Question::All => {
-                "SELECT rowid, ch, n, tape, title, umid, src_first, frames, retired FROM clip \
-                 WHERE ch = ?1 ORDER BY ch, n"
-            }
-            Question::Page(_) => {
-                "SELECT rowid, ch, n, tape, title, umid, src_first, frames, retired FROM clip \
-                 WHERE ch = ?1 AND n BETWEEN ?2 AND ?3 ORDER BY ch, n"
-            }
-            Question::Last => {
-                "SELECT rowid, ch, n, tape, title, umid, src_first, frames, retired FROM clip \
-                 WHERE ch = ?1 ORDER BY ch DESC, n DESC LIMIT 1"
-            }
-            Question::Number(_) => {
-                "SELECT rowid, ch, n, tape, title, umid, src_first, frames, retired FROM clip \
-                 WHERE ch = ?1 AND n = ?2 ORDER BY ch, n"
-            }
-        }
+        numbered_text!(clip_text question)
     }
 }
 
@@ -111,8 +117,7 @@ pub fn clip_with<S: Alter>(
     let clips = find_rows(
         alloc,
         tx,
-        "SELECT rowid, ch, n, tape, title, umid, src_first, frames, retired FROM clip \
-         WHERE ch = ?1 AND umid = ?2 ORDER BY ch, n",
+        clip_text!(SELECT "WHERE ch = ?1 AND umid = ?2 ORDER BY ch, n"),
         &of_bytes(channel, &bytes),
     )?;
     Ok(first_alone(&clips))
@@ -130,11 +135,7 @@ pub fn insert_clip<S: Alter>(
         Makes (on_clips (insert_sorted clip_cmp (channel, clip.now))) S.Store tx.old tx.new result }
 {
     let umid = clip.umid.to_bytes();
-    tx.execute(
-        "INSERT INTO clip (ch, n, tape, title, umid, src_first, frames, retired) \
-         VALUES (?1, ?2, ?3, ?4, ?5, ?6, ?7, ?8)",
-        &clip_values(channel, clip, &umid),
-    )
+    tx.execute(clip_text!(INSERT), &clip_values(channel, clip, &umid))
 }
 
 /// Retires a channel's clip with this number. It answers as [`insert_clip`] does, and commits nothing.

@@ -4,18 +4,17 @@ ghost use Rattle.std.specs.Option.{option_map};
 ghost use Rattle.sqlite.specs.State.{HasCleanDisk};
 ghost use Rattle.channel_view_model.specs.Centre.{Centre};
 ghost use Rattle.channel_view_model.specs.Tables.{of_channel, rows_of};
-ghost use Rattle.station_tables_texts.specs.Inside.{inside, Reads};
-ghost use Rattle.station_tables_texts.specs.Asking.{Answers, IsReading};
+ghost use Rattle.station_tables_records.specs.Inside.{inside, Reads};
+ghost use Rattle.station_tables_records.specs.Asking.{Answers, IsReading};
 ghost use Rattle.station_tables_statements.specs.declared.numbered.Question.{Question};
 ghost use Rattle.station_tables_statements.specs.Asked.{params_of};
 ghost use Rattle.station_tables_statements.specs.Calls.{WhileCleanCentre, set_in};
 ghost use Rattle.station_tables_statements.specs.Numbered.{AreNumbered, found_by, page_of};
 
 use crate::asked::{of_number, of_page};
+use crate::asking::find_rows;
 use sqlite::{Alter, Transaction};
-use station_tables_records::StoredRow;
-use station_tables_schema::find_rows;
-use station_tables_texts::of_channel;
+use station_tables_records::{StoredRow, of_channel};
 use std::alloc::Global;
 use timecode::Unavailable;
 

@@ -1,6 +1,6 @@
 //! The rows of offers: what is asked of them and written, each by a text of its own, inside a transaction. The windows
 //! of offers stand in a table of their own (`spans.rt`).
-ghost use Rattle.std.specs.Prelude.{◌≡◌, ◌==◌, [], ◌∷◌, true, map, IfOk, OnOk};
+ghost use Rattle.std.specs.Prelude.{◌≡◌, ◌==◌, [], ◌∷◌, IfOk, OnOk, true, map};
 ghost use Rattle.std.specs.Option.{option_and_then};
 ghost use Rattle.sqlite_keyed.specs.Lists.{insert_sorted};
 ghost use Rattle.sqlite.specs.State.{HasCleanDisk};
@@ -9,28 +9,40 @@ ghost use Rattle.umid.specs.BasicUmid.{basic_umid};
 ghost use Rattle.vault_core.specs.Offer.{is_open_to};
 ghost use Rattle.channel_view_model.specs.Tables.{alter_row, of_channel};
 ghost use Rattle.channel_view_model.specs.Seen.{grant_of, grants_to};
-ghost use Rattle.station_tables_texts.specs.Table.{ChangesTable};
-ghost use Rattle.station_tables_texts.specs.Inside.{inside, Looks, Reads, Writes};
-ghost use Rattle.station_tables_texts.specs.Values.{of_nat};
+ghost use Rattle.station_tables_records.specs.Table.{ChangesTable};
+ghost use Rattle.station_tables_records.specs.Inside.{inside, Reads, Writes, Looks};
+ghost use Rattle.station_tables_records.specs.Values.{of_nat};
+ghost use Rattle.station_tables_records.specs.TablePairs.{offer_tables};
 ghost use Rattle.station_tables_records.specs.OfferRows.{offer_row, offer_cmp, offer_table};
 ghost use Rattle.station_tables_records.specs.TwoTables.{HasBothNow};
-ghost use Rattle.station_tables_records.specs.TablePairs.{offer_tables};
-ghost use Rattle.station_tables_rows.specs.OfferRows.{without_window};
-ghost use Rattle.station_tables_schema.specs.Rows.{on_offers};
+ghost use Rattle.station_tables_records.specs.MadeOffers.{without_window};
+ghost use Rattle.station_tables_statements.specs.Rows.{on_offers};
+ghost use Rattle.station_tables_statements.specs.Calls.{WhileCleanCentre, Makes, set_in, OwnsRowsNow, LacksOfferNow};
 ghost use Rattle.station_tables_statements.specs.Asked.{offer_text_of};
-ghost use Rattle.station_tables_statements.specs.Calls.{WhileCleanCentre, Makes, OwnsRowsNow, LacksOfferNow, set_in};
 
 use crate::asked::of_number;
+use crate::asking::{StoredTable, find_rows};
+use crate::columns::{numbered_text, table_text};
 use crate::numbered::{AskedRow, NumberedRow, Question, find_asked, first_alone};
 use crate::spans::{insert_window, with_windows};
 use grant_core::{Grant, OpenOffer};
 use sqlite::types::ValueRef;
 use sqlite::{Alter, Error, Transaction};
-use station_tables_schema::find_rows;
-use station_tables_texts::{long_number, of_channel, short_number, truth};
+use station_tables_records::{ask, long_number, of_channel, short_number, truth};
 use std::alloc::Global;
 use timecode::Unavailable;
 use vault_core::Offer;
+
+// The texts that name the columns of `offer`.
+macro_rules! offer_text {
+    ($text:ident $($rest:literal)?) => {
+        table_text!(
+            $text "offer"
+            "ch, n, grantee, clip, title, umid, rate, src_first, frames, withdrawn"
+            "?1, ?2, ?3, ?4, ?5, ?6, ?7, ?8, ?9, ?10" $($rest)?
+        )
+    };
+}
 
 // What a text asks of a channel's open offer: the channel, the clip and the grantee.
 fn of_grant(channel: u16, asked: OpenOffer) -> [ValueRef<'static>; 3]
@@ -61,29 +73,24 @@ fn offer_values<'a>(channel: u16, offer: &'a Offer, umid: &'a [u8]) -> [ValueRef
     ]
 }
 
+/// By channel and number: of each the rowid, the channel, the number, the grantee, its clip's number, the title, the
+/// UMID's 32 bytes, the rate, the first frame and the length of the copy in frames, and 1 where it is withdrawn, else
+/// 0.
+impl StoredTable for (u16, Offer) {
+    fn ask_all<S: Alter>(
+        alloc: Global,
+        tx: &mut Transaction<'_, S>,
+    ) -> Result<Option<Vec<(u16, Offer)>>, Error> {
+        ask(alloc, tx, offer_text!(SELECT "ORDER BY ch, n"), &[])
+    }
+}
+
 /// As their own table has them: without their windows.
 impl AskedRow for (u16, Offer) {
     ghost texts = { offer_text_of };
 
     fn text(question: Question) -> &'static str {
-        match question {
-            Question::All => {
-                "SELECT rowid, ch, n, grantee, clip, title, umid, rate, src_first, frames, withdrawn \
-                 FROM offer WHERE ch = ?1 ORDER BY ch, n"
-            }
-            Question::Page(_) => {
-                "SELECT rowid, ch, n, grantee, clip, title, umid, rate, src_first, frames, withdrawn \
-                 FROM offer WHERE ch = ?1 AND n BETWEEN ?2 AND ?3 ORDER BY ch, n"
-            }
-            Question::Last => {
-                "SELECT rowid, ch, n, grantee, clip, title, umid, rate, src_first, frames, withdrawn \
-                 FROM offer WHERE ch = ?1 ORDER BY ch DESC, n DESC LIMIT 1"
-            }
-            Question::Number(_) => {
-                "SELECT rowid, ch, n, grantee, clip, title, umid, rate, src_first, frames, withdrawn \
-                 FROM offer WHERE ch = ?1 AND n = ?2 ORDER BY ch, n"
-            }
-        }
+        numbered_text!(offer_text question)
     }
 }
 
@@ -126,8 +133,7 @@ pub fn open_offer<S: Alter>(
     let offers = find_rows(
         alloc,
         tx,
-        "SELECT rowid, ch, n, grantee, clip, title, umid, rate, src_first, frames, withdrawn \
-         FROM offer WHERE ch = ?1 AND clip = ?2 AND grantee = ?3 AND withdrawn = 0 ORDER BY ch, n",
+        offer_text!(SELECT "WHERE ch = ?1 AND clip = ?2 AND grantee = ?3 AND withdrawn = 0 ORDER BY ch, n"),
         &of_grant(channel, it),
     )?;
     let offers = with_windows(alloc, tx, &offers)?;
@@ -162,8 +168,7 @@ pub fn load_lent<S: Alter>(
     let offers = find_rows(
         alloc,
         tx,
-        "SELECT rowid, ch, n, grantee, clip, title, umid, rate, src_first, frames, withdrawn \
-         FROM offer WHERE grantee = ?1 ORDER BY ch, n",
+        offer_text!(SELECT "WHERE grantee = ?1 ORDER BY ch, n"),
         &of_channel(channel),
     )?;
     let offers = with_windows(alloc, tx, &offers)?;
@@ -183,11 +188,7 @@ fn insert_row<S: Alter>(
         (inside S.Store tx.old) (inside S.Store tx.new)) }
 {
     let umid = offer.umid.to_bytes();
-    tx.execute(
-        "INSERT INTO offer (ch, n, grantee, clip, title, umid, rate, src_first, frames, withdrawn) \
-         VALUES (?1, ?2, ?3, ?4, ?5, ?6, ?7, ?8, ?9, ?10)",
-        &offer_values(channel, offer, &umid),
-    )
+    tx.execute(offer_text!(INSERT), &offer_values(channel, offer, &umid))
 }
 
 /// Adds an offer of this channel, 1 to 999, whose number is new in it, and its window where it has one. It fails with

@@ -1,26 +1,29 @@
-//! The rows of the plan's channels, and the row of `office`: what is asked of them and written, each by a text of its
-//! own, inside a transaction.
-ghost use Rattle.std.specs.Prelude.{◌≡◌, ◌↔◌, ℤ, IfOk, IfErr, OnOk};
+//! The rows of the channels of the plan: what is asked of them and written, each by a text of its own, inside a
+//! transaction.
+ghost use Rattle.std.specs.Prelude.{◌≡◌, [], IfOk};
 ghost use Rattle.sqlite_keyed.specs.Lists.{insert_sorted};
-ghost use Rattle.sqlite.specs.State.{HasCleanDisk};
 ghost use Rattle.sqlite.specs.Values.{bound};
 ghost use Rattle.channel_view_model.specs.Centre.{plan_of};
-ghost use Rattle.station_tables_texts.specs.Table.{IsShortage};
-ghost use Rattle.station_tables_texts.specs.Inside.{inside, Reads, Writes};
-ghost use Rattle.station_tables_texts.specs.Schema.{centre_schema};
+ghost use Rattle.station_tables_records.specs.Inside.{inside, Reads, Writes};
 ghost use Rattle.station_tables_records.specs.ChannelRows.{channel_row, channel_cmp};
-ghost use Rattle.station_tables_records.specs.OfficeRow.{HasVersion};
-ghost use Rattle.station_tables_schema.specs.Rows.{Changes, OwnsRows, BeginsBare, on_channels, no_rows};
-ghost use Rattle.station_tables_schema.specs.Calls.{WhileKnownTables};
+ghost use Rattle.station_tables_statements.specs.Rows.{on_channels};
 ghost use Rattle.station_tables_statements.specs.Calls.{WhileCleanCentre, Makes, LacksChannelNow, LacksDaysNow, set_in};
 
+use crate::asking::{StoredTable, find_rows};
+use crate::columns::table_text;
 use channel_plan::PlanRow;
 use sqlite::types::ValueRef;
-use sqlite::{Alter, Error, Row, Transaction};
-use station_tables_schema::find_rows;
-use station_tables_texts::{long_number, of_channel, short_number};
+use sqlite::{Alter, Error, Transaction};
+use station_tables_records::{ask, long_number, of_channel, short_number};
 use std::alloc::Global;
 use timecode::Unavailable;
+
+// The texts that name the columns of `channel`.
+macro_rules! channel_text {
+    ($text:ident $($rest:literal)?) => {
+        table_text!($text "channel" "ch, rate, start, slots" "?1, ?2, ?3, ?4" $($rest)?)
+    };
+}
 
 fn channel_values(plan: &PlanRow) -> [ValueRef<'static>; 4]
     ensures { bound result ≡ channel_row plan.now }
@@ -33,15 +36,15 @@ fn channel_values(plan: &PlanRow) -> [ValueRef<'static>; 4]
     ]
 }
 
-/// All rows of `office`, each with its rowid, `one` and version. It fails with the error of the statement: on
-/// a centre's tables, that memory, the disk or a limit stopped it.
-pub fn office_rows<S: Alter>(tx: &mut Transaction<'_, S>) -> Result<Vec<Row>, Error>
-    ensures reads { Reads S.Store tx.old tx.new result }
-    ensures rows { WhileKnownTables S.Store tx.old tx.new (IfOk result (λ rows. (version : ℤ) →
-        HasVersion version rows.items ↔ HasVersion version ((inside S.Store tx.old).now.trees 0))) }
-    ensures short { WhileKnownTables S.Store tx.old tx.new (IfErr result IsShortage) }
-{
-    tx.query_all("SELECT rowid, one, version FROM office ORDER BY one", &[])
+/// By number: of each the rowid, its number, the rate's text, the frame where its day starts, and how many slots it
+/// has.
+impl StoredTable for PlanRow {
+    fn ask_all<S: Alter>(
+        alloc: Global,
+        tx: &mut Transaction<'_, S>,
+    ) -> Result<Option<Vec<PlanRow>>, Error> {
+        ask(alloc, tx, channel_text!(SELECT "ORDER BY ch"), &[])
+    }
 }
 
 /// The channel's row of the plan, or `None` where it isn't in it. It fails where memory or the store does, and
@@ -58,7 +61,7 @@ pub fn load_plan<S: Alter>(
     let channels = find_rows(
         alloc,
         tx,
-        "SELECT rowid, ch, rate, start, slots FROM channel WHERE ch = ?1 ORDER BY ch",
+        channel_text!(SELECT "WHERE ch = ?1 ORDER BY ch"),
         &of_channel(channel),
     )?;
     Ok(channels.first().copied())
@@ -71,19 +74,5 @@ pub fn insert_channel<S: Alter>(tx: &mut Transaction<'_, S>, plan: &PlanRow) -> 
     ensures makes { LacksDaysNow (inside S.Store tx.old) → LacksChannelNow plan.now (inside S.Store tx.old) →
         Makes (on_channels (insert_sorted channel_cmp plan.now)) S.Store tx.old tx.new result }
 {
-    tx.execute(
-        "INSERT INTO channel (ch, rate, start, slots) VALUES (?1, ?2, ?3, ?4)",
-        &channel_values(plan),
-    )
-}
-
-/// Adds the one row of `office`, of version 2, to tables without a row. It answers as [`insert_channel`] does, and
-/// commits nothing.
-pub fn insert_office<S: Alter>(tx: &mut Transaction<'_, S>) -> Result<usize, Error>
-    ensures writes { Writes S.Store tx.old tx.new result }
-    ensures makes { BeginsBare centre_schema (inside S.Store tx.old) → HasCleanDisk (inside S.Store tx.new) →
-        OnOk result (Changes (λ _. no_rows) (inside S.Store tx.old) (inside S.Store tx.new)
-        × OwnsRows (inside S.Store tx.new).now.trees) }
-{
-    tx.execute("INSERT INTO office (one, version) VALUES (1, 2)", &[])
+    tx.execute(channel_text!(INSERT), &channel_values(plan))
 }

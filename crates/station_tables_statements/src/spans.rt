@@ -1,26 +1,34 @@
 //! The rows of offers' windows: what is asked of them and written, each by a text of its own, inside a transaction.
-ghost use Rattle.std.specs.Prelude.{◌≡◌, map, IfOk, OnOk, slice_get};
+ghost use Rattle.std.specs.Prelude.{◌≡◌, [], IfOk, OnOk, map, slice_get};
 ghost use Rattle.std.specs.Option.{option_map};
 ghost use Rattle.sqlite_keyed.specs.Lists.{insert_sorted};
 ghost use Rattle.sqlite.specs.State.{HasCleanDisk};
 ghost use Rattle.sqlite.specs.Values.{bound};
-ghost use Rattle.station_tables_texts.specs.Table.{ChangesTable};
-ghost use Rattle.station_tables_texts.specs.Inside.{inside, Looks, Reads, Writes};
-ghost use Rattle.station_tables_rows.specs.OfferRows.{offer_made, span_cmp, window_at, with_span};
+ghost use Rattle.station_tables_records.specs.Table.{ChangesTable};
+ghost use Rattle.station_tables_records.specs.Inside.{inside, Reads, Writes, Looks};
+ghost use Rattle.station_tables_records.specs.TablePairs.{offer_tables, offer_rows_in};
+ghost use Rattle.station_tables_records.specs.TwoTables.{HasBothNow, ChangesBoth, IsAtBoth};
+ghost use Rattle.station_tables_records.specs.MadeOffers.{offer_made, span_cmp, window_at, with_span};
 ghost use Rattle.station_tables_records.specs.SpanRows.{span_row, span_table};
-ghost use Rattle.station_tables_records.specs.TwoTables.{ChangesBoth, HasBothNow, IsAtBoth};
-ghost use Rattle.station_tables_records.specs.TablePairs.{offer_rows_in, offer_tables};
+ghost use Rattle.station_tables_statements.specs.Calls.{HasCentreSchema, HasFirstSchema};
 ghost use Rattle.station_tables_statements.specs.Calls.{WhileCleanCentre, LacksSpanNow};
 
 use crate::asked::of_number;
+use crate::asking::{StoredTable, find_rows};
+use crate::columns::table_text;
 use sqlite::types::ValueRef;
 use sqlite::{Alter, Error, Transaction};
-use station_tables_rows::{SpanRow, with_window};
-use station_tables_schema::find_rows;
-use station_tables_texts::{long_number, short_number};
+use station_tables_records::{SpanRow, ask, long_number, short_number, with_window};
 use std::alloc::Global;
 use timecode::Unavailable;
 use vault_core::{Offer, Window};
+
+// The texts that name the columns of `span`.
+macro_rules! span_text {
+    ($text:ident $($rest:literal)?) => {
+        table_text!($text "span" "ch, n, first_day, last_day" "?1, ?2, ?3, ?4" $($rest)?)
+    };
+}
 
 // The columns of a window.
 fn span_values(channel: u16, span: SpanRow) -> [ValueRef<'static>; 4]
@@ -44,6 +52,21 @@ fn first_window(spans: &[(u16, SpanRow)]) -> Option<Window>
     }
 }
 
+/// By the channel and the number of the offer: of each the rowid, these two, and its first and last day. The tables of
+/// version 1 have none.
+impl StoredTable for (u16, SpanRow) {
+    ghost is_there = { HasCentreSchema };
+
+    ghost is_missing = { HasFirstSchema };
+
+    fn ask_all<S: Alter>(
+        alloc: Global,
+        tx: &mut Transaction<'_, S>,
+    ) -> Result<Option<Vec<(u16, SpanRow)>>, Error> {
+        ask(alloc, tx, span_text!(SELECT "ORDER BY ch, n"), &[])
+    }
+}
+
 // The window of an offer, which stands beside its channel, if it has one.
 fn window_of<S: Alter>(
     alloc: Global,
@@ -57,7 +80,7 @@ fn window_of<S: Alter>(
     let spans = find_rows(
         alloc,
         tx,
-        "SELECT rowid, ch, n, first_day, last_day FROM span WHERE ch = ?1 AND n = ?2 ORDER BY ch, n",
+        span_text!(SELECT "WHERE ch = ?1 AND n = ?2 ORDER BY ch, n"),
         &of_number(offer.0, u32::from(offer.1.n)),
     )?;
     Ok(first_window(&spans))
@@ -95,10 +118,7 @@ fn insert_span<S: Alter>(
         (inside S.Store tx.old) (inside S.Store tx.new)) }
 {
     span.window.keeps_the_form();
-    tx.execute(
-        "INSERT INTO span (ch, n, first_day, last_day) VALUES (?1, ?2, ?3, ?4)",
-        &span_values(channel, span),
-    )
+    tx.execute(span_text!(INSERT), &span_values(channel, span))
 }
 
 /// Adds the row of an offer's window, where it has one.

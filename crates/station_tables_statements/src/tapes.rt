@@ -7,22 +7,30 @@ ghost use Rattle.sqlite_keyed.specs.Lists.{insert_sorted};
 ghost use Rattle.sqlite.specs.Values.{bound, or_null};
 ghost use Rattle.vault_core.specs.Tape.{stands_in};
 ghost use Rattle.channel_view_model.specs.Tables.{alter_row, of_channel};
-ghost use Rattle.station_tables_texts.specs.Inside.{inside, Looks, Writes};
-ghost use Rattle.station_tables_texts.specs.Values.{of_nat};
+ghost use Rattle.station_tables_records.specs.Inside.{inside, Writes, Looks};
+ghost use Rattle.station_tables_records.specs.Values.{of_nat};
 ghost use Rattle.station_tables_records.specs.TapeRows.{tape_row, tape_cmp};
-ghost use Rattle.station_tables_schema.specs.Rows.{on_tapes};
+ghost use Rattle.station_tables_statements.specs.Rows.{on_tapes};
+ghost use Rattle.station_tables_statements.specs.Calls.{WhileCleanCentre, Makes, set_in, LacksTapeNow};
 ghost use Rattle.station_tables_statements.specs.Asked.{tape_text_of};
-ghost use Rattle.station_tables_statements.specs.Calls.{WhileCleanCentre, Makes, LacksTapeNow, set_in};
 
 use crate::asked::of_number;
+use crate::asking::{StoredTable, find_rows};
+use crate::columns::{numbered_text, table_text};
 use crate::numbered::{AskedRow, NumberedRow, Question, find_asked, first_alone};
 use sqlite::types::ValueRef;
 use sqlite::{Alter, Error, Transaction};
-use station_tables_schema::find_rows;
-use station_tables_texts::short_number;
+use station_tables_records::{ask, of_channel, short_number};
 use std::alloc::Global;
 use timecode::Unavailable;
 use vault_core::{Barcode, Tape};
+
+// The texts that name the columns of `tape`.
+macro_rules! tape_text {
+    ($text:ident $($rest:literal)?) => {
+        table_text!($text "tape" "ch, n, barcode, slot" "?1, ?2, ?3, ?4" $($rest)?)
+    };
+}
 
 // NULL where there is none.
 fn slot_value(slot: Option<u16>) -> ValueRef<'static>
@@ -53,24 +61,21 @@ fn tape_values(channel: u16, tape: &Tape) -> [ValueRef<'_>; 4]
     ]
 }
 
+/// By channel and number: of each the rowid, the channel, the number, the barcode, and the slot or NULL.
+impl StoredTable for (u16, Tape) {
+    fn ask_all<S: Alter>(
+        alloc: Global,
+        tx: &mut Transaction<'_, S>,
+    ) -> Result<Option<Vec<(u16, Tape)>>, Error> {
+        ask(alloc, tx, tape_text!(SELECT "ORDER BY ch, n"), &[])
+    }
+}
+
 impl AskedRow for (u16, Tape) {
     ghost texts = { tape_text_of };
 
     fn text(question: Question) -> &'static str {
-        match question {
-            Question::All => {
-                "SELECT rowid, ch, n, barcode, slot FROM tape WHERE ch = ?1 ORDER BY ch, n"
-            }
-            Question::Page(_) => {
-                "SELECT rowid, ch, n, barcode, slot FROM tape WHERE ch = ?1 AND n BETWEEN ?2 AND ?3 ORDER BY ch, n"
-            }
-            Question::Last => {
-                "SELECT rowid, ch, n, barcode, slot FROM tape WHERE ch = ?1 ORDER BY ch DESC, n DESC LIMIT 1"
-            }
-            Question::Number(_) => {
-                "SELECT rowid, ch, n, barcode, slot FROM tape WHERE ch = ?1 AND n = ?2 ORDER BY ch, n"
-            }
-        }
+        numbered_text!(tape_text question)
     }
 }
 
@@ -112,7 +117,7 @@ pub fn tape_with<S: Alter>(
     let tapes = find_rows(
         alloc,
         tx,
-        "SELECT rowid, ch, n, barcode, slot FROM tape WHERE ch = ?1 AND barcode = ?2 ORDER BY ch, n",
+        tape_text!(SELECT "WHERE ch = ?1 AND barcode = ?2 ORDER BY ch, n"),
         &of_barcode(channel, barcode),
     )?;
     Ok(first_alone(&tapes))
@@ -136,7 +141,7 @@ pub fn tape_in<S: Alter>(
     let tapes = find_rows(
         alloc,
         tx,
-        "SELECT rowid, ch, n, barcode, slot FROM tape WHERE ch = ?1 AND slot = ?2 ORDER BY ch, n",
+        tape_text!(SELECT "WHERE ch = ?1 AND slot = ?2 ORDER BY ch, n"),
         &of_number(channel, slot),
     )?;
     Ok(first_alone(&tapes))
@@ -153,10 +158,7 @@ pub fn insert_tape<S: Alter>(
     ensures makes { LacksTapeNow channel tape.now (inside S.Store tx.old) →
         Makes (on_tapes (insert_sorted tape_cmp (channel, tape.now))) S.Store tx.old tx.new result }
 {
-    tx.execute(
-        "INSERT INTO tape (ch, n, barcode, slot) VALUES (?1, ?2, ?3, ?4)",
-        &tape_values(channel, tape),
-    )
+    tx.execute(tape_text!(INSERT), &tape_values(channel, tape))
 }
 
 /// Puts this tape in the place of the channel's with its number. It answers as [`insert_tape`] does, and commits

@@ -9,9 +9,8 @@ use crate::others::{
 use crate::recording::Recording;
 use crate::script::{Exchange, exchanges_of, message};
 use channel_plan::PlanRow;
-use channel_view::MemRows;
+use channel_view::{MOST_DAYS, MemRows, RecentDays};
 use channel_view_model::RowStore;
-use channel_view_recent::{MOST_DAYS, RecentDays};
 use http_office::answers::Answer;
 use http_office::messages::answer;
 use station_tables::{SqlRows, centre_in_memory};

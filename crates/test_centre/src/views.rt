@@ -2,9 +2,8 @@
 use crate::asked::FIRST;
 use crate::centres::are_answered;
 use crate::others::plan_row;
-use channel_view::MemRows;
+use channel_view::{MemRows, RecentDays};
 use channel_view_model::{RowStore, View};
-use channel_view_recent::RecentDays;
 use station_tables::{SqlRows, centre_in_memory};
 use std::alloc::Global;
 use std::process::Abort;

@@ -3,8 +3,7 @@
 use crate::centres::are_answered;
 use crate::recording::Recording;
 use channel_plan::PlanRow;
-use channel_view::MemRows;
-use channel_view_recent::RecentDays;
+use channel_view::{MemRows, RecentDays};
 use station_tables::centre_in_memory;
 use std::alloc::Global;
 use std::process::Abort;

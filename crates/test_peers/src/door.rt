@@ -178,8 +178,8 @@ impl World {
         }
     }
 
-    fn read(&mut self, seat: Seat, room: &mut [u8]) -> io::Result<usize>
-        ensures { ReadsAtMost result room.new }
+    fn read(&mut self, seat: Seat, buffer: &mut [u8]) -> io::Result<usize>
+        ensures { ReadsAtMost result buffer.new }
     {
         let most = self.below(300).saturating_add(1);
         let wire = self.wire_at(seat)?;
@@ -189,14 +189,14 @@ impl World {
         let Some(rest) = wire.sends.get(wire.read..wire.come) else {
             return Err(Error::from(ErrorKind::Other));
         };
-        let count = rest.len().min(room.len()).min(most);
+        let count = rest.len().min(buffer.len()).min(most);
         if count == 0 {
             return match wire.is_over && wire.come == wire.sends.len() {
                 true => Ok(0),
                 false => Err(Error::from(ErrorKind::WouldBlock)),
             };
         }
-        room[..count].copy_from_slice(&rest[..count]);
+        buffer[..count].copy_from_slice(&rest[..count]);
         wire.read = wire.read.saturating_add(count);
         Ok(count)
     }
@@ -254,8 +254,8 @@ impl Door for Chance {
         Ok(Some(number))
     }
 
-    fn read(&mut self, seat: Seat, room: &mut [u8]) -> io::Result<usize> {
-        self.world.read(seat, room)
+    fn read(&mut self, seat: Seat, buffer: &mut [u8]) -> io::Result<usize> {
+        self.world.read(seat, buffer)
     }
 
     fn write(&mut self, seat: Seat, bytes: &[u8]) -> io::Result<usize> {

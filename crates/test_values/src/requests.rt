@@ -4,10 +4,10 @@ use crate::days::AT_25;
 use channel_plan::PlanRow;
 use channel_view::laws::stores_answer_alike;
 use channel_view::{MemRows, handle, prepare, run};
-use channel_view_decisions::decide;
 use channel_view_model::{
     Change, Command, Need, Outcome, Reply, RowStore, Table, TableText, VaultChange, VaultCommand,
 };
+use channel_view_rules::decide;
 use std::alloc::{AllocError, Global};
 use std::process::Abort;
 use std::test::Fail;

@@ -4,3 +4,5 @@ pub mod Tallies
 pub mod Readings
 pub mod Divided
 mod DecimalLemmas
+pub mod RateLemmas
+pub mod DigitLemmas

@@ -4,21 +4,22 @@ use Rattle.timecode.specs.declared.rates.Rate.{Rate}
 use Rattle.timecode.specs.declared.labels.Label.{Label}
 use Rattle.timecode.specs.declared.faults.TcFault.{TcFault}
 use Rattle.timecode.specs.declared.faults.TcFault.TheVariants.{FrameRange}
+use Rattle.timecode.specs.Letters.{digit_0, colon, semicolon}
 use Rattle.timecode.specs.Rate.{is_drop_frame}
 use Rattle.timecode.specs.Address.{Address, address}
 use Rattle.timecode.specs.Counting.{address_of_frame, day_length}
 
 -- `:`, or `;` before the frames at drop-frame
 abbrev pub last_mark : Rate → ℕ
-last_mark rate = if is_drop_frame rate then 59 else 58
+last_mark rate = if is_drop_frame rate then semicolon else colon
 
 -- HH:MM:SS:FF, each number in two decimal digits
 abbrev pub address_text : Rate → Address → List ℕ
 address_text rate a =
-    (48 + a.hours / 10) ∷ (48 + a.hours % 10) ∷ 58 ∷
-    (48 + a.minutes / 10) ∷ (48 + a.minutes % 10) ∷ 58 ∷
-    (48 + a.seconds / 10) ∷ (48 + a.seconds % 10) ∷ last_mark rate ∷
-    (48 + a.frames / 10) ∷ (48 + a.frames % 10) ∷ []
+    (digit_0 + a.hours / 10) ∷ (digit_0 + a.hours % 10) ∷ colon ∷
+    (digit_0 + a.minutes / 10) ∷ (digit_0 + a.minutes % 10) ∷ colon ∷
+    (digit_0 + a.seconds / 10) ∷ (digit_0 + a.seconds % 10) ∷ last_mark rate ∷
+    (digit_0 + a.frames / 10) ∷ (digit_0 + a.frames % 10) ∷ []
 
 abbrev pub address_of_label : Label → Address
 address_of_label label = address label.hours label.minutes label.seconds label.frames

@@ -5,6 +5,7 @@ use Rattle.std.specs.Char.{is_ascii_digit}
 use Rattle.timecode.specs.declared.rates.Rate.{Rate}
 use Rattle.timecode.specs.declared.faults.TcFault.{TcFault}
 use Rattle.timecode.specs.declared.faults.TcFault.TheVariants.{LabelForm, LabelRange, DropMark, DroppedLabel}
+use Rattle.timecode.specs.Letters.{digit_0, colon, semicolon}
 use Rattle.timecode.specs.Rate.{is_drop_frame}
 use Rattle.timecode.specs.Address.{Address, address, is_in_range}
 use Rattle.timecode.specs.Counting.{frame_at}
@@ -13,14 +14,14 @@ use Rattle.timecode.specs.Label.{address_of_label}
 
 -- `:` or `;`
 abbrev pub is_mark : ℕ → Bool
-is_mark byte = (byte == 58) || (byte == 59)
+is_mark byte = (byte == colon) || (byte == semicolon)
 
 -- two digits from byte i of the text on, and the number that they write
 abbrev pub has_number_at : List ℕ → ℕ → Bool
 has_number_at text i = is_ascii_digit (slice_index text i) && is_ascii_digit (slice_index text (i + 1))
 
 abbrev pub number_at : List ℕ → ℕ → ℕ
-number_at text i = 10 * (slice_index text i - 48) + (slice_index text (i + 1) - 48)
+number_at text i = 10 * (slice_index text i - digit_0) + (slice_index text (i + 1) - digit_0)
 
 -- eleven bytes: four numbers of two digits, with a mark between
 abbrev pub has_label_form : List ℕ → Bool
@@ -35,7 +36,8 @@ address_of_text text = address (number_at text 0) (number_at text 3) (number_at 
 
 -- one of the three marks is `;`
 abbrev pub has_drop_mark : List ℕ → Bool
-has_drop_mark text = (slice_index text 2 == 59) || (slice_index text 5 == 59) || (slice_index text 8 == 59)
+has_drop_mark text = (slice_index text 2 == semicolon) || (slice_index text 5 == semicolon)
+    || (slice_index text 8 == semicolon)
 
 -- a label in range that no frame of the day has is one that drop-frame counting drops
 unfoldable pub reading_of_text : Rate → List ℕ → Result ℕ TcFault

@@ -1,3 +1,4 @@
+pub mod Letters
 pub mod Decimal
 pub mod Rate
 pub mod Fault

@@ -18,6 +18,14 @@ is_drop_frame F25 = false
 is_drop_frame F30 = false
 is_drop_frame Df30 = true
 
+-- two rates are one
+abbrev pub is_same_rate : Rate → Rate → Bool
+is_same_rate F24 F24 = true
+is_same_rate F25 F25 = true
+is_same_rate F30 F30 = true
+is_same_rate Df30 Df30 = true
+is_same_rate _ _ = false
+
 -- the rate as text
 abbrev pub rate_text : Rate → List ℕ
 rate_text F24 = codes "24"

@@ -10,7 +10,7 @@ use Rattle.vault_core.specs.declared.clip.Clip.{Clip}
 use Rattle.vault_core.specs.declared.offer.Offer.{Offer}
 use Rattle.vault_core.specs.Questions.{alter}
 use Rattle.vault_core.specs.Own.{Own, with_withdrawn}
-use Rattle.vault_core.specs.Offer.{is_copy, copies}
+use Rattle.vault_core.specs.Offer.{is_copy, matches_clip}
 use Rattle.vault_core.specs.Rules.{is_offer, are_apart, open_grants, is_same_grant, KeepsOfferRules, KeepsOwnRules}
 use Rattle.vault_core.proofs.RuleLemmas.{all-alter, numbered-alter}
 
@@ -24,18 +24,18 @@ all-weaker p q step (r ∷ rs) h =
     grind (arith, first, rest)
 
 -- a clip more behind those of a channel hides none of them
-copies-push : (plan : PlanRow) (o : Offer) (x y : Option Clip) → copies plan o x ≡ true
-    → copies plan o (option_or x y) ≡ true
-copies-push plan o None y h = absurd (cc)
-copies-push plan o (Some k) y h = h
+matches_clip-push : (plan : PlanRow) (o : Offer) (x y : Option Clip) → matches_clip plan o x ≡ true
+    → matches_clip plan o (option_or x y) ≡ true
+matches_clip-push plan o None y h = absurd (cc)
+matches_clip-push plan o (Some k) y h = h
 
 offer-push : (plan : PlanRow) (cs : List Clip) (c : Clip) (o : Offer) → is_offer plan cs o ≡ true
     → is_offer plan (cs ++ c ∷ []) o ≡ true
 offer-push plan cs c o h =
-    let there : copies plan o (find (λ k. k.n == o.clip) cs) ≡ true = grind (arith, h) in
-    let still : copies plan o (find (λ k. k.n == o.clip) (cs ++ c ∷ [])) ≡ true =
+    let there : matches_clip plan o (find (λ k. k.n == o.clip) cs) ≡ true = grind (arith, h) in
+    let still : matches_clip plan o (find (λ k. k.n == o.clip) (cs ++ c ∷ [])) ≡ true =
     rw (find-append (λ (k : Clip). k.n == o.clip) cs (c ∷ []))
-    (copies-push plan o (find (λ k. k.n == o.clip) cs) (find (λ k. k.n == o.clip) (c ∷ [])) there) in
+    (matches_clip-push plan o (find (λ k. k.n == o.clip) cs) (find (λ k. k.n == o.clip) (c ∷ [])) there) in
     grind (arith, h, still)
 
 pub offers-push_clip : (plan : PlanRow) (cs : List Clip) (c : Clip) (os : List Offer) → KeepsOfferRules plan cs os
@@ -74,20 +74,20 @@ find-retire n m (c ∷ cs) =
           ]
     ] refl
 
-copies-retire : (plan : PlanRow) (o : Offer) (n : ℕ) (x : Option Clip)
-    → copies plan o (option_map (retire n) x) ≡ copies plan o x
+matches_clip-retire : (plan : PlanRow) (o : Offer) (n : ℕ) (x : Option Clip)
+    → matches_clip plan o (option_map (retire n) x) ≡ matches_clip plan o x
 unfolding is_copy
-copies-retire plan o n None = refl
-copies-retire plan o n (Some k) =
+matches_clip-retire plan o n None = refl
+matches_clip-retire plan o n (Some k) =
     elim (k.n == n) as (λ b. is_copy plan o (if b then record k { retired = true } else k) ≡ is_copy plan o k)
     [ true ↦ refl | false ↦ refl ]
 
 offer-retire : (plan : PlanRow) (cs : List Clip) (n : ℕ) (o : Offer) → is_offer plan cs o ≡ true
     → is_offer plan (map (retire n) cs) o ≡ true
 offer-retire plan cs n o h =
-    let same : copies plan o (find (λ k. k.n == o.clip) (map (retire n) cs))
-    ≡ copies plan o (find (λ k. k.n == o.clip) cs) =
-    ap (copies plan o) (find-retire n o.clip cs) ∙ copies-retire plan o n (find (λ k. k.n == o.clip) cs) in
+    let same : matches_clip plan o (find (λ k. k.n == o.clip) (map (retire n) cs))
+    ≡ matches_clip plan o (find (λ k. k.n == o.clip) cs) =
+    ap (matches_clip plan o) (find-retire n o.clip cs) ∙ matches_clip-retire plan o n (find (λ k. k.n == o.clip) cs) in
     grind (arith, h, same)
 
 pub offers-retire : (plan : PlanRow) (cs : List Clip) (n : ℕ) (os : List Offer) → KeepsOfferRules plan cs os
@@ -100,18 +100,18 @@ offers-retire plan cs n os rules = record {
 }
 
 -- an offer that is withdrawn has what its clip has still
-copies-withdrawn : (plan : PlanRow) (o : Offer) (x : Option Clip)
-    → copies plan (record o { withdrawn = true }) x ≡ copies plan o x
+matches_clip-withdrawn : (plan : PlanRow) (o : Offer) (x : Option Clip)
+    → matches_clip plan (record o { withdrawn = true }) x ≡ matches_clip plan o x
 unfolding is_copy
-copies-withdrawn plan o None = refl
-copies-withdrawn plan o (Some k) = refl
+matches_clip-withdrawn plan o None = refl
+matches_clip-withdrawn plan o (Some k) = refl
 
 withdrawn_copy : (own : Own) (o : Offer) → is_offer own.plan own.clips o ≡ true
     → is_offer own.plan own.clips (record o { withdrawn = true }) ≡ true
 withdrawn_copy own o h =
-    let same : copies own.plan (record o { withdrawn = true }) (find (λ c. c.n == o.clip) own.clips)
-    ≡ copies own.plan o (find (λ c. c.n == o.clip) own.clips) =
-    copies-withdrawn own.plan o (find (λ c. c.n == o.clip) own.clips) in
+    let same : matches_clip own.plan (record o { withdrawn = true }) (find (λ c. c.n == o.clip) own.clips)
+    ≡ matches_clip own.plan o (find (λ c. c.n == o.clip) own.clips) =
+    matches_clip-withdrawn own.plan o (find (λ c. c.n == o.clip) own.clips) in
     grind (arith, h, same)
 
 -- and it leaves the others apart

@@ -1,6 +1,6 @@
 -- Part of the promise: offers: the copy of a clip that is lent to another channel.
 use Rattle.std.specs.Prelude.{ℕ, Bool, false, not, ◌&&◌, ◌==◌, nat_lt, nat_le, Option, Some, None, bytes_eq}
-use Rattle.timecode.specs.Rate.{rate_text}
+use Rattle.timecode.specs.Rate.{is_same_rate}
 use Rattle.umid.specs.BasicUmid.{UmidParts, basic_umid}
 use Rattle.channel_plan.specs.Limits.{last_channel}
 use Rattle.channel_plan.specs.declared.plan.PlanRow.{PlanRow}
@@ -31,12 +31,12 @@ granted_copy plan n grantee window k = record {
 unfoldable pub is_copy : PlanRow → Offer → Clip → Bool
 is_copy plan o k =
     bytes_eq o.title k.title && bytes_eq (basic_umid o.umid) (basic_umid (granted_umid k.umid o.grantee))
-    && bytes_eq (rate_text o.rate) (rate_text plan.rate) && (o.src_first == k.src_first && o.frames == k.frames)
+    && is_same_rate o.rate plan.rate && (o.src_first == k.src_first && o.frames == k.frames)
 
 -- the clip is there, and the offer has what it has
-abbrev pub copies : PlanRow → Offer → Option Clip → Bool
-copies plan o None = false
-copies plan o (Some k) = is_copy plan o k
+abbrev pub matches_clip : PlanRow → Offer → Option Clip → Bool
+matches_clip plan o None = false
+matches_clip plan o (Some k) = is_copy plan o k
 
 -- a channel other than this one
 abbrev pub is_grantee : PlanRow → ℕ → Bool

@@ -11,7 +11,7 @@ use Rattle.vault_core.specs.declared.offer.Offer.{Offer}
 use Rattle.channel_plan.specs.Plan.{is_plan_row}
 use Rattle.vault_core.specs.Tape.{is_barcode}
 use Rattle.vault_core.specs.Clip.{is_title, is_clip_range, umid_bytes}
-use Rattle.vault_core.specs.Offer.{copies, is_grantee}
+use Rattle.vault_core.specs.Offer.{matches_clip, is_grantee}
 use Rattle.vault_core.specs.Own.{Own}
 
 -- numbered from n on without a hole
@@ -58,7 +58,7 @@ pub record KeepsClipRules (plan : PlanRow) (tapes : ℕ) (clips : List Clip) : T
 
 -- the fields of an offer: it is to another channel, and has what the clip has that it names
 abbrev pub is_offer : PlanRow → List Clip → Offer → Bool
-is_offer plan clips o = is_grantee plan o.grantee && copies plan o (find (λ c. c.n == o.clip) clips)
+is_offer plan clips o = is_grantee plan o.grantee && matches_clip plan o (find (λ c. c.n == o.clip) clips)
 
 -- the clip and the grantee of each that is open
 abbrev pub open_grants : List Offer → List (ℕ × ℕ)

@@ -4,7 +4,8 @@ ghost use Rattle.std.specs.List.{list_all};
 ghost use Rattle.vault_core.specs.Rules.{is_slot as is_slot_of, is_tape as is_tape_of, is_numbered_from};
 ghost use Rattle.vault_core.specs.Rules.{is_clip as is_clip_of, is_offer as is_offer_of};
 ghost use Rattle.vault_core.specs.Rules.{KeepsOwnRules, KeepsClipRules, KeepsOfferRules};
-ghost use Rattle.vault_core.specs.Offer.{is_copy as is_copy_of, is_grantee as is_grantee_of, copies as copies_of};
+ghost use Rattle.vault_core.specs.Offer.{is_copy as is_copy_of, is_grantee as is_grantee_of};
+ghost use Rattle.vault_core.specs.Offer.{matches_clip as matches_clip_of};
 
 use crate::clip::{Clip, MAX_CLIPS, is_range};
 use crate::keys::{have_own_barcodes, have_own_grants, have_own_slots, have_own_umids};
@@ -74,7 +75,7 @@ fn is_offer(offer: &Offer, plan: &PlanRow, clips: &[Clip]) -> bool
     requires { is_numbered_from (λ c. c.n) 1 clips.now ≡ true }
     ensures { result ≡ is_offer_of plan.now clips.now offer.now }
 {
-    is_grantee(plan, offer.grantee) && copies(plan, offer, clip_numbered(clips, offer.clip))
+    is_grantee(plan, offer.grantee) && matches_clip(plan, offer, clip_numbered(clips, offer.clip))
 }
 
 /// Whether a channel is one that this one may lend to: 1 to 999, and another.
@@ -84,8 +85,8 @@ pub(crate) fn is_grantee(plan: &PlanRow, grantee: u16) -> bool
     grantee > 0 && grantee <= LAST_CHANNEL && grantee != plan.ch
 }
 
-fn copies(plan: &PlanRow, offer: &Offer, clip: Option<Clip>) -> bool
-    ensures { result ≡ copies_of plan.now offer.now clip }
+fn matches_clip(plan: &PlanRow, offer: &Offer, clip: Option<Clip>) -> bool
+    ensures { result ≡ matches_clip_of plan.now offer.now clip }
 {
     match clip {
         Some(clip) => is_copy(plan, offer, &clip),
@@ -100,7 +101,7 @@ fn is_copy(plan: &PlanRow, offer: &Offer, clip: &Clip) -> bool
     let granted = clip.umid.with_instance(u32::from(offer.grantee));
     offer.title.as_bytes() == clip.title.as_bytes()
         && offer.umid.to_bytes() == granted.to_bytes()
-        && offer.rate.text().as_bytes() == plan.rate.text().as_bytes()
+        && offer.rate == plan.rate
         && (offer.src_first == clip.src_first && offer.frames == clip.frames)
 }
 

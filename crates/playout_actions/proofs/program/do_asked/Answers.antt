@@ -4,9 +4,9 @@ use Rattle.std.specs.Borrow.{Bor}
 use Rattle.std.specs.Prelude.{ℕ}
 use Rattle.std.proofs.KnownBytes.{Keeps-refl}
 use Rattle.edl.specs.Texts.{texts_of}
-use Rattle.playout_words.specs.declared.words.Action.{Action}
-use Rattle.playout_words.specs.declared.words.Action.TheVariants as asks
-use Rattle.playout_words.specs.declared.words.NoAction.{NoAction}
+use Rattle.playout_args.specs.declared.words.Action.{Action}
+use Rattle.playout_args.specs.declared.words.Action.TheVariants as asks
+use Rattle.playout_args.specs.declared.words.NoAction.{NoAction}
 use Rattle.playout_actions.specs.Office.{DoesAsked, DoesFiles, Office, office_of}
 use Rattle.playout_actions.proofs.program.do_asked.Goals as goal
 

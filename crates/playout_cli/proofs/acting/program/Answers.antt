@@ -1,7 +1,7 @@
 -- What was done of the words.
 use Rattle.std.proofs.Common.{sym, subst}
 use Rattle.std.specs.Prelude.{Ok, map, string_bytes}
-use Rattle.playout_words.specs.Words.{AreRead}
+use Rattle.playout_args.specs.Words.{AreRead}
 use Rattle.playout_actions.specs.Office.{DoesAsked, office_of}
 use Rattle.playout_cli.proofs.ActingLemmas.{does_over, does_without, does_none}
 use Rattle.playout_cli.proofs.acting.program.Goals as goal

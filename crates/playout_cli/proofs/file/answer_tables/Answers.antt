@@ -2,9 +2,9 @@
 use Rattle.std.proofs.Common.{◌∙◌, ap, sym, subst}
 use Rattle.sqlite.specs.State.{HasCleanDisk}
 use Rattle.sqlite.specs.Held.{state}
-use Rattle.station_tables_schema.specs.Rows.{StandsFor}
-use Rattle.station_tables_commits.specs.Tables.{MayLeave}
-use Rattle.channel_view_recent.proofs.KnownLemmas.{nothing_known}
+use Rattle.station_tables_statements.specs.Rows.{StandsFor}
+use Rattle.station_tables.specs.Tables.{MayLeave}
+use Rattle.channel_view.proofs.KnownLemmas.{nothing_known}
 use Rattle.playout_cli.proofs.ServingLemmas.{serves_on}
 use Rattle.playout_cli.proofs.file.answer_tables.Goals as goal
 

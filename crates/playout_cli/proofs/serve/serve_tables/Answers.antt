@@ -3,9 +3,9 @@ use Rattle.std.proofs.Common.{◌∙◌, ap, sym, subst}
 use Rattle.std.proofs.lemmas.Result.{IfOk-weaker}
 use Rattle.sqlite.specs.State.{HasCleanDisk}
 use Rattle.sqlite.specs.Held.{state}
-use Rattle.station_tables_schema.specs.Rows.{StandsFor}
-use Rattle.station_tables_commits.specs.Tables.{MayLeave}
-use Rattle.channel_view_recent.proofs.KnownLemmas.{nothing_known}
+use Rattle.station_tables_statements.specs.Rows.{StandsFor}
+use Rattle.station_tables.specs.Tables.{MayLeave}
+use Rattle.channel_view.proofs.KnownLemmas.{nothing_known}
 use Rattle.playout_cli.proofs.KeptLemmas.{stands_always}
 use Rattle.playout_cli.proofs.ServingLemmas.{err_where_on, serves_over, port_over}
 use Rattle.playout_cli.proofs.serve.serve_tables.Goals as goal

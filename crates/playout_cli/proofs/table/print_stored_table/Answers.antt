@@ -5,7 +5,7 @@ use Rattle.std.proofs.lemmas.Result.{IfErr-weaker}
 use Rattle.sqlite.specs.State.{HasCleanDisk}
 use Rattle.sqlite.specs.Held.{state}
 use Rattle.playout_actions.specs.Tables.{PrintsTable, TableHas, IsTableFault}
-use Rattle.station_tables_schema.specs.Rows.{StandsFor}
+use Rattle.station_tables_statements.specs.Rows.{StandsFor}
 use Rattle.playout_cli.specs.Kept.{BeginsWith}
 use Rattle.station_tables.specs.Opens.{RefusesToOpen}
 use Rattle.playout_cli.proofs.KeptLemmas.{stands_always}

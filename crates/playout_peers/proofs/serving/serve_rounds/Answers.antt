@@ -8,7 +8,7 @@ pub loop-init : goal.loop-init
 loop-init g c =
     let store = g.S.RowStore in
     record {
-      room = c.requires.room;
+      buffer = c.requires.buffer;
       within = omega (arith, c.requires.none);
       serves =
           serves_none store.is_clean store.stands_for store.may_leave store.leaves_sets _ _ _ _ _ c.requires.places

@@ -8,7 +8,7 @@ abbrev pub invariant-loop : goal.invariant-loop
 invariant-loop g l =
     let store = g.S.RowStore in
     record {
-      room : 0 < length l.means.room.items;
+      buffer : 0 < length l.means.buffer.items;
       within : l.peers.ended ≤ l.fn.limits.turns;
       serves : Serving store.is_clean store.stands_for store.may_leave store.leaves_sets l.fn.store l.store
           (g.D.Door.wire l.fn.door) (g.D.Door.wire l.door)

@@ -12,6 +12,6 @@ invariant-loop g l =
           (g.D.Door.wire l.fn.door) (g.D.Door.wire l.door)
           (g.D.Door.accepted l.fn.door) (g.D.Door.accepted l.door) l.fn.peers l.peers
           (has_told g.E.Write.contents l.fn.faults) (has_told g.E.Write.contents l.faults);
-      room : length l.means.room.items ≡ length l.fn.means.room.items;
+      buffer : length l.means.buffer.items ≡ length l.fn.means.buffer.items;
       count : l.peers.ended ≡ l.fn.peers.ended;
     }

@@ -3,7 +3,7 @@ use Rattle.std.proofs.Common.{◌≡◌, List, ◌++◌, ℕ}
 use Rattle.std.specs.Prelude.{codes}
 use Rattle.std.proofs.lemmas.List.{append_assoc}
 use Rattle.vault_core.specs.Reel.{clip_reel}
-use Rattle.reports.specs.Fields.{digits_in}
+use Rattle.timecode.specs.Decimal.{in_digits}
 use Rattle.reports.specs.Offers.{offer_state, window_field}
 use Rattle.reports.proofs.offers.offer_line.Goals as goal
 
@@ -31,5 +31,5 @@ returns c =
       c.from.ensures,
       c.new-line.ensures,
     )
-    (in_one_line (digits_in 4 o.n) (clip_reel o.clip) (digits_in 3 o.grantee) (offer_state o.withdrawn)
+    (in_one_line (in_digits 4 o.n) (clip_reel o.clip) (in_digits 3 o.grantee) (offer_state o.withdrawn)
     (window_field o.window))

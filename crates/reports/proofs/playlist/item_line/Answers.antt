@@ -5,7 +5,8 @@ use Rattle.timecode.specs.Label.{label_text, frame_text}
 use Rattle.playlist_core.specs.Day.{label_at}
 use Rattle.playlist_core.specs.Item.{kind_text}
 use Rattle.playlist_core.specs.Source.{source_reel}
-use Rattle.reports.specs.Fields.{left_in, number_in, digits_in}
+use Rattle.timecode.specs.Decimal.{in_digits}
+use Rattle.reports.specs.Fields.{left_in, number_in}
 use Rattle.std.proofs.lemmas.List.{append_assoc}
 use Rattle.reports.proofs.playlist.item_line.Goals as goal
 
@@ -47,5 +48,5 @@ returns-clause-ok c =
       c.new-line.ensures,
     )
     (in_one_line (number_in 4 i.n) (label_text (label_at plan i.pos)) (number_in 7 i.frames)
-    (left_in 4 (kind_text i.kind)) (digits_in 3 i.mix) (left_in 8 (source_reel i.src))
+    (left_in 4 (kind_text i.kind)) (in_digits 3 i.mix) (left_in 8 (source_reel i.src))
     (frame_text plan.rate i.src_first))

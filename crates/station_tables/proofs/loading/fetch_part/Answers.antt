@@ -6,10 +6,10 @@ use Rattle.std.specs.Prelude.{IfOk}
 use Rattle.channel_view_model.specs.Centre.{Centre, view_of}
 use Rattle.channel_view_model.specs.Need.{IsFetched}
 use Rattle.channel_view_model.specs.Rules.{KeepsRules}
-use Rattle.station_tables_texts.specs.Inside.{inside}
+use Rattle.station_tables_records.specs.Inside.{inside}
 use Rattle.station_tables_statements.proofs.StandLemmas.{keeps_centre, where_ok}
-use Rattle.station_tables_commits.specs.Tables.{LeavesSets}
-use Rattle.station_tables_commits.proofs.StandLemmas.{leaves_kept}
+use Rattle.station_tables.specs.Tables.{LeavesSets}
+use Rattle.station_tables.proofs.StandLemmas.{leaves_kept}
 use Rattle.station_tables_reading.proofs.SeenLemmas.{rules_kept}
 use Rattle.station_tables.proofs.loading.fetch_part.Goals as goal
 

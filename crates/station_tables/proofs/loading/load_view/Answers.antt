@@ -2,9 +2,9 @@
 use Rattle.std.proofs.Common.{arith, rules}
 use Rattle.sqlite.specs.State.{HasCleanDisk}
 use Rattle.sqlite.specs.Held.{state}
-use Rattle.station_tables_texts.specs.Inside.{inside}
-use Rattle.station_tables_commits.specs.Tables.{LeavesSets}
-use Rattle.station_tables_commits.proofs.StandLemmas.{leaves_kept}
+use Rattle.station_tables_records.specs.Inside.{inside}
+use Rattle.station_tables.specs.Tables.{LeavesSets}
+use Rattle.station_tables.proofs.StandLemmas.{leaves_kept}
 use Rattle.station_tables_reading.proofs.SeenLemmas.{rules_kept}
 use Rattle.station_tables.proofs.loading.load_view.Goals as goal
 

@@ -3,9 +3,9 @@ use Rattle.std.proofs.Common.{sym, subst}
 use Rattle.sqlite.specs.Held.{state}
 use Rattle.sqlite.specs.Steps.{over_memory}
 use Rattle.sqlite.proofs.Callers.{memory_is_clean}
-use Rattle.station_tables_texts.specs.Schema.{no_schema}
-use Rattle.station_tables_schema.specs.Rows.{BeginsBare, Stands, plan_in_order}
-use Rattle.station_tables_commits.specs.declared.opening.Version.TheVariants.{Second}
+use Rattle.station_tables_records.specs.Schema.{no_schema}
+use Rattle.station_tables_statements.specs.Rows.{BeginsBare, Stands, plan_in_order}
+use Rattle.station_tables.specs.declared.finding.Version.TheVariants.{Second}
 use Rattle.station_tables.specs.Store.{store_state}
 use Rattle.station_tables.proofs.memory.centre_in_memory.Goals as goal
 

@@ -9,12 +9,12 @@ use Rattle.channel_plan.specs.Refusal.{refused}
 use Rattle.channel_plan.specs.declared.refusal.Code.{Code}
 use Rattle.channel_plan.specs.declared.refusal.Code.TheVariants.{NotOurs}
 use Rattle.station_tables_records.specs.OfficeRow.{HasVersion}
-use Rattle.station_tables_schema.specs.Rows.{Holds, Stands}
+use Rattle.station_tables_statements.specs.Rows.{Holds, Stands}
 use Rattle.station_tables_statements.proofs.StandLemmas.{on_ok_so}
-use Rattle.station_tables_commits.specs.declared.opening.Version.{Version}
-use Rattle.station_tables_commits.specs.declared.opening.Version.TheVariants.{First, Second}
-use Rattle.station_tables_commits.specs.Opening.{HasTablesOf, IsCentreOf, database_in, number_of, rows_at}
-use Rattle.station_tables_commits.proofs.OpenLemmas.{handed_on, known_of, known_version, one_version, version_in}
+use Rattle.station_tables.specs.declared.finding.Version.{Version}
+use Rattle.station_tables.specs.declared.finding.Version.TheVariants.{First, Second}
+use Rattle.station_tables.specs.Opening.{HasTablesOf, IsCentreOf, database_in, number_of, rows_at}
+use Rattle.station_tables.proofs.FindLemmas.{handed_on, known_of, known_version, one_version, version_in}
 use Rattle.station_tables.specs.Opens.{RefusesToOpen}
 use Rattle.station_tables.proofs.OpenLemmas.{second_stands, first_set, centre_then, first_then, left_found, may_be}
 use Rattle.station_tables.proofs.OpenLemmas.{no_more, may_be_so, for_code, all_of, on_code_all, on_ok_all, on_err_all}

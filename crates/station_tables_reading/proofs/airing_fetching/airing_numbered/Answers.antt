@@ -4,9 +4,9 @@ use Rattle.std.proofs.lemmas.Result.{IfOk-weaker}
 use Rattle.sqlite.specs.State.{HasCleanDisk}
 use Rattle.channel_view_model.specs.Airings.{airing_at}
 use Rattle.channel_view_model.specs.Tables.{of_channel}
-use Rattle.station_tables_texts.specs.Inside.{inside}
-use Rattle.station_tables_days.specs.AiredCalls.{airings_in}
-use Rattle.station_tables_days.proofs.SeenLemmas.{airing_seen_is, airing_in_found, airing_in_none}
+use Rattle.station_tables_records.specs.Inside.{inside}
+use Rattle.station_tables_statements.specs.AiredCalls.{airings_in}
+use Rattle.station_tables_statements.proofs.AiringSeenLemmas.{airing_seen_is, airing_in_found, airing_in_none}
 use Rattle.station_tables_records.proofs.AiredLemmas.{batches_rise}
 use Rattle.station_tables_statements.specs.Calls.{set_in}
 use Rattle.station_tables_statements.proofs.DayLookLemmas.{has_airings}

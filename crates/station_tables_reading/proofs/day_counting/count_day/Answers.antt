@@ -2,11 +2,11 @@
 use Rattle.std.proofs.Common.{◌≡◌, filter, ap, ap₂, ◌∙◌, arith}
 use Rattle.sqlite.specs.State.{HasCleanDisk}
 use Rattle.sqlite.specs.Effect.{Database}
-use Rattle.station_tables_rows.specs.DayRows.{is_of_day}
-use Rattle.station_tables_rows.specs.AiredRows.{is_batch_of}
+use Rattle.station_tables_records.specs.MadeDays.{is_of_day}
+use Rattle.station_tables_records.specs.MadeAirings.{is_batch_of}
 use Rattle.station_tables_records.specs.TablePairs.{aired_rows_in, day_rows_in}
-use Rattle.station_tables_texts.specs.Inside.{inside}
-use Rattle.station_tables_texts.proofs.InsideLemmas.{reads_on}
+use Rattle.station_tables_records.specs.Inside.{inside}
+use Rattle.station_tables_records.proofs.InsideLemmas.{reads_on}
 use Rattle.station_tables_statements.proofs.DayLookLemmas.{has_days, has_airings}
 use Rattle.station_tables_statements.proofs.LookLemmas.{reads_then}
 use Rattle.station_tables_statements.proofs.SameLemmas.{centre_after}

@@ -6,7 +6,7 @@ use Rattle.std.proofs.lemmas.List.Sums.{sum-map}
 use Rattle.sqlite_keyed.proofs.ListLemmas.{map-map}
 use Rattle.playlist_core.specs.declared.item.Item.{Item}
 use Rattle.reports.specs.Playlist.{frames_of}
-use Rattle.station_tables_rows.specs.declared.day_rows.ItemRow.{ItemRow}
+use Rattle.station_tables_records.specs.declared.day_rows.ItemRow.{ItemRow}
 use Rattle.station_tables_reading.proofs.day_counting.frames_of.Goals as goal
 
 frames_in_rows : (rows : List (ℕ × ItemRow)) → sum_by (λ r. r.1.item.frames) rows ≡ frames_of (map (λ r. r.1.item) rows)

@@ -3,7 +3,7 @@ use Rattle.std.proofs.Common.{◌≡◌, ◌<◌, ◌∙◌, List, [], ◌∷◌
 use Rattle.std.specs.Prelude.{slice_get, slice_index_or}
 use Rattle.channel_view_model.specs.Tables.{of_channel}
 use Rattle.channel_view_model.specs.Days.{day_at}
-use Rattle.station_tables_texts.specs.Inside.{inside}
+use Rattle.station_tables_records.specs.Inside.{inside}
 use Rattle.station_tables_statements.specs.Calls.{set_in}
 use Rattle.station_tables_statements.proofs.DayLookLemmas.{has_days, day_there, day_not_there}
 use Rattle.station_tables_reading.proofs.day_fetching.day_numbered.Goals as goal

@@ -4,8 +4,8 @@ use Rattle.std.specs.Prelude.{◌==◌, find}
 use Rattle.std.specs.Option.{option_map}
 use Rattle.sqlite.specs.State.{HasCleanDisk, IsUnchanged}
 use Rattle.vault_core.specs.declared.offer.Offer.{Offer}
-use Rattle.station_tables_texts.specs.Inside.{inside}
-use Rattle.station_tables_schema.specs.Rows.{offers_in}
+use Rattle.station_tables_records.specs.Inside.{inside}
+use Rattle.station_tables_statements.specs.Rows.{offers_in}
 use Rattle.station_tables_reading.specs.Lent.{lent_to}
 use Rattle.station_tables_reading.proofs.LentLemmas.{lent_is, offers_rise}
 use Rattle.station_tables_reading.proofs.day_fetching.grant_numbered.Goals as goal

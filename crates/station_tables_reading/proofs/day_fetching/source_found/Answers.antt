@@ -9,7 +9,7 @@ use Rattle.channel_view_model.specs.Seen.{grants_to}
 use Rattle.channel_view_model.specs.Need.{AreSourceAnswers}
 use Rattle.channel_view_model.proofs.TableLemmas.{picked_is}
 use Rattle.channel_view_model.proofs.SourceLemmas.{status_answer, lent_answer}
-use Rattle.station_tables_texts.specs.Inside.{inside}
+use Rattle.station_tables_records.specs.Inside.{inside}
 use Rattle.station_tables_statements.specs.Calls.{set_in}
 use Rattle.station_tables_reading.proofs.day_fetching.source_found.Goals as goal
 

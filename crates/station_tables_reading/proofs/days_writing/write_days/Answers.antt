@@ -7,7 +7,7 @@ use Rattle.reports.specs.Output.{AppendsPart}
 use Rattle.reports.specs.Days.{day_line, days_end, days_text}
 use Rattle.reports.proofs.PartLemmas.{nothing_yet, part_behind, whole_behind}
 use Rattle.channel_view_model.specs.Centre.{view_at}
-use Rattle.station_tables_texts.specs.Inside.{inside}
+use Rattle.station_tables_records.specs.Inside.{inside}
 use Rattle.station_tables_statements.specs.Calls.{set_in}
 use Rattle.station_tables_reading.specs.DayLines.{days_below, line_in}
 use Rattle.station_tables_reading.proofs.PageTextLemmas.{begun}

@@ -4,7 +4,7 @@ use Rattle.std.specs.List.{flat_map}
 use Rattle.std.specs.Io.KnownBytes.{Appends}
 use Rattle.std.proofs.lemmas.List.{take_all}
 use Rattle.sqlite.specs.State.{HasCleanDisk}
-use Rattle.station_tables_texts.specs.Inside.{inside}
+use Rattle.station_tables_records.specs.Inside.{inside}
 use Rattle.station_tables_statements.proofs.LookLemmas.{looks_on, looks_then, read_is_look}
 use Rattle.station_tables_reading.specs.DayLines.{line_in}
 use Rattle.station_tables_reading.proofs.PageTextLemmas.{begun}

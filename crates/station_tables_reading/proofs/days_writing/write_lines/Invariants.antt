@@ -3,7 +3,7 @@ use Rattle.std.proofs.Common.{◌≡◌, take, Ok}
 use Rattle.std.specs.List.{flat_map}
 use Rattle.std.specs.Io.KnownBytes.{Appends}
 use Rattle.channel_view_model.specs.declared.table.TableFault.{TableFault}
-use Rattle.station_tables_texts.specs.Inside.{inside, Looks}
+use Rattle.station_tables_records.specs.Inside.{inside, Looks}
 use Rattle.station_tables_statements.specs.Calls.{WhileCleanCentre}
 use Rattle.station_tables_reading.specs.DayLines.{line_in}
 use Rattle.station_tables_reading.proofs.days_writing.write_lines.Given as goal

@@ -4,9 +4,9 @@ use Rattle.std.specs.List.{flat_map}
 use Rattle.std.specs.Io.KnownBytes.{Appends}
 use Rattle.reports.specs.Output.{AppendsPart}
 use Rattle.reports.proofs.PartLemmas.{nothing_yet}
-use Rattle.station_tables_rows.specs.DayRows.{is_day_in}
+use Rattle.station_tables_records.specs.MadeDays.{is_day_in}
 use Rattle.station_tables_records.specs.TablePairs.{day_rows_in}
-use Rattle.station_tables_texts.specs.Inside.{inside}
+use Rattle.station_tables_records.specs.Inside.{inside}
 use Rattle.station_tables_statements.proofs.LookLemmas.{looks_on, looks_then, read_is_look}
 use Rattle.station_tables_reading.specs.DayLines.{days_below, line_in}
 use Rattle.station_tables_reading.proofs.PageTextLemmas.{begun, whole_part}

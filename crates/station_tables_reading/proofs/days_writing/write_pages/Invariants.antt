@@ -4,7 +4,7 @@ use Rattle.std.specs.List.{flat_map}
 use Rattle.std.specs.Io.KnownBytes.{Appends}
 use Rattle.channel_plan.specs.declared.plan.PlanRow.{PlanRow}
 use Rattle.channel_view_model.specs.declared.table.TableFault.{TableFault}
-use Rattle.station_tables_texts.specs.Inside.{inside, Looks}
+use Rattle.station_tables_records.specs.Inside.{inside, Looks}
 use Rattle.station_tables_reading.specs.Lines.{WhileCleanSeen}
 use Rattle.station_tables_reading.specs.DayLines.{days_below, line_in}
 use Rattle.station_tables_reading.proofs.days_writing.write_pages.Given as goal

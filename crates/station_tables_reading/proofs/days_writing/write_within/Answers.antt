@@ -6,11 +6,11 @@ use Rattle.std.specs.Io.KnownBytes.{Appends}
 use Rattle.sqlite.specs.Effect.{Database}
 use Rattle.sqlite.specs.State.{HasCleanDisk}
 use Rattle.reports.specs.Output.{AppendsPart}
-use Rattle.station_tables_rows.specs.declared.day_rows.DayRow.{DayRow}
-use Rattle.station_tables_rows.specs.DayRows.{is_day_in}
+use Rattle.station_tables_records.specs.declared.day_rows.DayRow.{DayRow}
+use Rattle.station_tables_records.specs.MadeDays.{is_day_in}
 use Rattle.station_tables_records.specs.TablePairs.{day_rows_in}
-use Rattle.station_tables_texts.specs.Inside.{inside}
-use Rattle.station_tables_texts.proofs.InsideLemmas.{reads_on}
+use Rattle.station_tables_records.specs.Inside.{inside}
+use Rattle.station_tables_records.proofs.InsideLemmas.{reads_on}
 use Rattle.station_tables_statements.proofs.DayLookLemmas.{has_days}
 use Rattle.station_tables_statements.proofs.LookLemmas.{look_after, read_is_look}
 use Rattle.station_tables_reading.specs.DayLines.{line_in}

@@ -1,7 +1,7 @@
 -- `count_paged`: how many rows the table has page by page.
 use Rattle.std.proofs.Common.{sym, ap}
 use Rattle.channel_view_model.specs.Centre.{view_at}
-use Rattle.station_tables_texts.specs.Inside.{inside}
+use Rattle.station_tables_records.specs.Inside.{inside}
 use Rattle.station_tables_statements.specs.Calls.{set_in}
 use Rattle.station_tables_reading.specs.Lines.{count_of}
 use Rattle.station_tables_reading.proofs.PageTextLemmas.{own_count}

@@ -7,7 +7,7 @@ use Rattle.reports.specs.Clips.{clip_line}
 use Rattle.reports.specs.Offers.{offer_line}
 use Rattle.channel_view_model.specs.Centre.{view_at}
 use Rattle.channel_view_model.specs.Tables.{rows_of}
-use Rattle.station_tables_texts.specs.Inside.{inside}
+use Rattle.station_tables_records.specs.Inside.{inside}
 use Rattle.station_tables_statements.specs.Calls.{set_in}
 use Rattle.station_tables_statements.specs.Numbered.{page_of}
 use Rattle.station_tables_reading.specs.Lines.{lines_of, shelved_of}

@@ -15,12 +15,12 @@ use Rattle.channel_view_model.proofs.ViewLemmas.{found_channel}
 use Rattle.channel_view_model.specs.Centre.{plan_of, view_at, view_of}
 use Rattle.channel_view_model.specs.Need.{IsFetched, IsDayAnswer, IsAiringAnswer, AreSourceAnswers}
 use Rattle.channel_view_model.proofs.TableLemmas.{picked_is}
-use Rattle.station_tables_texts.specs.Inside.{inside}
+use Rattle.station_tables_records.specs.Inside.{inside}
 use Rattle.station_tables_statements.specs.Calls.{set_in}
 use Rattle.station_tables_statements.specs.Numbered.{AreNumbered}
 use Rattle.station_tables_statements.proofs.LookLemmas.{owned_looked, looks_then, look_after, read_is_look, was_clean}
 use Rattle.station_tables_statements.proofs.LookLemmas.{set_before}
-use Rattle.station_tables_texts.proofs.InsideLemmas.{reads_on, reads_failed}
+use Rattle.station_tables_records.proofs.InsideLemmas.{reads_on, reads_failed}
 use Rattle.station_tables_reading.proofs.fetching.read_part.Goals as goal
 
 -- a channel's rows of a table, as what is asked of them reads them

@@ -2,7 +2,7 @@
 use Rattle.std.proofs.Common.{◌≡◌, ◌*◌, take, ℕ, Ok}
 use Rattle.std.specs.Io.KnownBytes.{Appends}
 use Rattle.channel_view_model.specs.declared.table.TableFault.{TableFault}
-use Rattle.station_tables_texts.specs.Inside.{Looks}
+use Rattle.station_tables_records.specs.Inside.{Looks}
 use Rattle.station_tables_reading.specs.Lines.{WhileCleanSeen, joined, lines_of, shelved_of}
 use Rattle.station_tables_reading.proofs.table_writing.write_pages.Given as goal
 

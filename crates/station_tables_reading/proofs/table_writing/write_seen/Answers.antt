@@ -7,10 +7,10 @@ use Rattle.reports.proofs.PartLemmas.{nothing_yet}
 use Rattle.reports.proofs.LineLemmas.{on_err}
 use Rattle.channel_view_model.specs.declared.view.View.{View}
 use Rattle.channel_view_model.specs.TableText.{table_text, text_at}
-use Rattle.station_tables_texts.specs.Inside.{inside}
+use Rattle.station_tables_records.specs.Inside.{inside}
 use Rattle.station_tables_statements.specs.Calls.{set_in}
 use Rattle.station_tables_statements.proofs.LookLemmas.{look_after, read_is_look}
-use Rattle.station_tables_texts.proofs.InsideLemmas.{reads_on}
+use Rattle.station_tables_records.proofs.InsideLemmas.{reads_on}
 use Rattle.station_tables_reading.proofs.PageTextLemmas.{seen_then}
 use Rattle.station_tables_reading.proofs.SeenLemmas.{seen_of, seen_of_none}
 use Rattle.station_tables_reading.proofs.table_writing.write_seen.Goals as goal

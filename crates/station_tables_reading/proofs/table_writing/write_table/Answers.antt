@@ -7,8 +7,8 @@ use Rattle.reports.specs.Output.{AppendsPart}
 use Rattle.reports.proofs.LineLemmas.{map_err}
 use Rattle.channel_view_model.specs.Centre.{Centre, view_of}
 use Rattle.channel_view_model.specs.TableText.{text_at}
-use Rattle.station_tables_texts.specs.Inside.{inside}
-use Rattle.station_tables_schema.specs.Rows.{HasSet}
+use Rattle.station_tables_records.specs.Inside.{inside}
+use Rattle.station_tables_statements.specs.Rows.{HasSet}
 use Rattle.station_tables_reading.proofs.SeenLemmas.{open_or_shut, own_set, rules_kept}
 use Rattle.station_tables_reading.proofs.table_writing.write_table.Goals as goal
 

@@ -2,7 +2,7 @@
 use Rattle.std.proofs.Common.{◌∙◌, ap}
 use Rattle.std.proofs.lemmas.Result.{IfOk-weaker}
 use Rattle.channel_view_model.specs.Tables.{rows_alone}
-use Rattle.station_tables_texts.specs.Inside.{inside}
+use Rattle.station_tables_records.specs.Inside.{inside}
 use Rattle.station_tables_statements.specs.Calls.{set_in}
 use Rattle.station_tables_statements.proofs.DayLookLemmas.{has_airings}
 use Rattle.station_tables_reading.proofs.view_loading.load_all_airings.Goals as goal

@@ -3,7 +3,7 @@ use Rattle.std.proofs.Common.{◌≡◌, ◌∙◌}
 use Rattle.channel_view_model.specs.Tables.{rows_of}
 use Rattle.station_tables_statements.proofs.LookLemmas.{looks_then, reads_then, reads_err, read_is_look, was_clean}
 use Rattle.station_tables_statements.proofs.LookLemmas.{set_before}
-use Rattle.station_tables_texts.proofs.InsideLemmas.{reads_on, reads_failed}
+use Rattle.station_tables_records.proofs.InsideLemmas.{reads_on, reads_failed}
 use Rattle.station_tables_reading.proofs.view_loading.read_own.Goals as goal
 
 pub returns-in-Ok-clause-reads : goal.returns-in-Ok-clause-reads

@@ -6,10 +6,10 @@ use Rattle.channel_view_model.specs.Seen.{grants_to}
 use Rattle.channel_view_model.specs.Centre.{own_of, plan_of, view_at, view_of}
 use Rattle.channel_view_model.specs.Rules.{KeepsRules}
 use Rattle.channel_view_model.proofs.ViewLemmas.{found_channel}
-use Rattle.station_tables_texts.specs.Inside.{inside}
+use Rattle.station_tables_records.specs.Inside.{inside}
 use Rattle.station_tables_statements.specs.Calls.{set_in}
 use Rattle.station_tables_statements.proofs.LookLemmas.{looks_then, reads_then, read_is_look, was_clean, set_before}
-use Rattle.station_tables_texts.proofs.InsideLemmas.{reads_on, reads_failed}
+use Rattle.station_tables_records.proofs.InsideLemmas.{reads_on, reads_failed}
 use Rattle.station_tables_reading.proofs.view_loading.read_view.Goals as goal
 
 pub returns-in_default-clause-view : goal.returns-in_default-clause-view

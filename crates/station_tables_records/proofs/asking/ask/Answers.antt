@@ -1,7 +1,7 @@
 -- `ask`: asks a text of SELECT with these values for its parameters: what the rows that it shows stand for.
 use Rattle.std.proofs.Common.{Ok}
 use Rattle.sqlite.specs.Values.{bound}
-use Rattle.station_tables_texts.proofs.InsideLemmas.{Queried, reads_inside, reads_on, reads_failed}
+use Rattle.station_tables_records.proofs.InsideLemmas.{Queried, reads_inside, reads_on, reads_failed}
 use Rattle.station_tables_records.proofs.asking.ask.Goals as goal
 
 pub returns-in_err-rows-clause-reads : goal.returns-in_err-rows-clause-reads

@@ -1,7 +1,7 @@
 -- `read_rows`: what these rows of a table stand for, in the order in which they stand, or `None`.
 use Rattle.std.proofs.Common.{◌∙◌, sym, true≢false, rules}
 use Rattle.std.proofs.lemmas.Fn.{always_returns_same}
-use Rattle.station_tables_texts.proofs.KeyLemmas.{found_as, none_as}
+use Rattle.station_tables_records.proofs.KeyLemmas.{found_as, none_as}
 use Rattle.station_tables_records.proofs.stored.read_rows.Goals as goal
 
 pub returns-clause-some : goal.returns-clause-some

@@ -4,12 +4,12 @@ use Rattle.std.specs.Option.{option_and_then}
 use Rattle.vault_core.specs.Clip.{has_umid}
 use Rattle.channel_view_model.specs.Tables.{of_channel}
 use Rattle.sqlite_value.specs.declared.value.Value.TheVariants.{Blob as Bytes}
-use Rattle.station_tables_texts.specs.Values.{of_nat}
-use Rattle.station_tables_schema.proofs.AskedLemmas.{found_part}
-use Rattle.station_tables_schema.proofs.ClipLemmas.{shows_clip_with}
-use Rattle.station_tables_texts.proofs.TextLemmas.{clip_texts}
+use Rattle.station_tables_records.specs.Values.{of_nat}
+use Rattle.station_tables_statements.proofs.AskedLemmas.{found_part}
+use Rattle.station_tables_statements.proofs.ClipLemmas.{shows_clip_with}
+use Rattle.station_tables_records.proofs.TextLemmas.{clip_texts}
 use Rattle.station_tables_records.specs.ClipRows.{is_clip_with}
-use Rattle.station_tables_texts.specs.Inside.{inside}
+use Rattle.station_tables_records.specs.Inside.{inside}
 use Rattle.station_tables_statements.proofs.FoundLemmas.{first_alone_is}
 use Rattle.station_tables_statements.specs.Calls.{set_in}
 use Rattle.station_tables_statements.proofs.clips.clip_with.Goals as goal

@@ -1,9 +1,9 @@
 -- `insert_clip`: adds a clip of this channel, 1 to 999, whose number is new in it.
 use Rattle.std.proofs.Common.{subst}
-use Rattle.station_tables_texts.proofs.InsideLemmas.{Executed, writes_inside, made_inside}
-use Rattle.station_tables_texts.proofs.Texts.{insert_clip_text}
+use Rattle.station_tables_records.proofs.InsideLemmas.{Executed, writes_inside, made_inside}
+use Rattle.station_tables_records.proofs.Texts.{insert_clip_text}
 use Rattle.station_tables_records.specs.ClipRows.{clip_row}
-use Rattle.station_tables_schema.proofs.StatementLemmas.{inserts_clip}
+use Rattle.station_tables_statements.proofs.StatementLemmas.{inserts_clip}
 use Rattle.station_tables_statements.proofs.clips.insert_clip.Goals as goal
 
 pub returns : goal.returns

@@ -1,9 +1,9 @@
 -- `retire_clip`: retires a channel's clip with this number.
 use Rattle.std.proofs.Common.{[], ◌∷◌, subst}
-use Rattle.station_tables_texts.proofs.InsideLemmas.{Executed, writes_inside, made_inside}
-use Rattle.station_tables_texts.specs.Values.{of_nat}
-use Rattle.station_tables_texts.proofs.Texts.{retire_clip_text}
-use Rattle.station_tables_schema.proofs.StatementLemmas.{sets_retired}
+use Rattle.station_tables_records.proofs.InsideLemmas.{Executed, writes_inside, made_inside}
+use Rattle.station_tables_records.specs.Values.{of_nat}
+use Rattle.station_tables_records.proofs.Texts.{retire_clip_text}
+use Rattle.station_tables_statements.proofs.StatementLemmas.{sets_retired}
 use Rattle.station_tables_statements.proofs.clips.retire_clip.Goals as goal
 
 pub returns : goal.returns

@@ -1,7 +1,7 @@
 -- `count_rows`: how many rows the channel has: their numbers have no hole, so it is the highest.
 use Rattle.std.proofs.Common.{ap, ◌∙◌}
-use Rattle.station_tables_schema.proofs.LookupLemmas.{number_or, last_is_count}
-use Rattle.station_tables_texts.specs.Inside.{inside}
+use Rattle.station_tables_statements.proofs.LookupLemmas.{number_or, last_is_count}
+use Rattle.station_tables_records.specs.Inside.{inside}
 use Rattle.station_tables_statements.specs.Calls.{set_in}
 use Rattle.station_tables_statements.proofs.numbered.count_rows.Goals as goal
 

@@ -1,8 +1,8 @@
 -- `load_page`: the channel's rows on this page, by number: on page 0 those with the numbers 1 to `PAGE`.
 use Rattle.std.proofs.Common.{map, ap, ◌∙◌}
 use Rattle.std.proofs.lemmas.Result.{IfOk-weaker}
-use Rattle.station_tables_schema.proofs.PageLemmas.{page_is_slice}
-use Rattle.station_tables_texts.specs.Inside.{inside}
+use Rattle.station_tables_statements.proofs.PageLemmas.{page_is_slice}
+use Rattle.station_tables_records.specs.Inside.{inside}
 use Rattle.station_tables_statements.specs.Calls.{set_in}
 use Rattle.station_tables_statements.proofs.numbered.load_page.Goals as goal
 

@@ -1,7 +1,7 @@
 -- `row_numbered`: the channel's row with this number.
 use Rattle.std.proofs.Common.{◌∙◌}
 use Rattle.station_tables_records.specs.Numbered.{is_row}
-use Rattle.station_tables_texts.specs.Inside.{inside}
+use Rattle.station_tables_records.specs.Inside.{inside}
 use Rattle.station_tables_statements.specs.Calls.{set_in}
 use Rattle.station_tables_statements.proofs.FoundLemmas.{first_alone_is}
 use Rattle.station_tables_statements.proofs.numbered.row_numbered.Goals as goal

@@ -1,15 +1,15 @@
 -- `insert_offer`: adds an offer of this channel, 1 to 999, whose number is new in it, and its window where it has one.
 use Rattle.std.proofs.Common.{sym, subst, arith}
 use Rattle.sqlite.specs.State.{HasCleanDisk}
-use Rattle.station_tables_texts.specs.Inside.{inside}
-use Rattle.station_tables_rows.specs.OfferRows.{OfferSet, LacksSpan, without_window, with_span}
+use Rattle.station_tables_records.specs.Inside.{inside}
+use Rattle.station_tables_records.specs.MadeOffers.{OfferSet, LacksSpan, without_window, with_span}
 use Rattle.sqlite_keyed.specs.Lists.{insert_sorted}
 use Rattle.station_tables_records.specs.OfferRows.{offer_cmp}
 use Rattle.station_tables_records.specs.TwoTables.{HasBothNow, IsAtBoth}
 use Rattle.station_tables_records.specs.TablePairs.{offer_rows_in, offer_tables}
-use Rattle.station_tables_schema.proofs.SpanLemmas.{of_offers, offers_change}
+use Rattle.station_tables_statements.proofs.SpanLemmas.{of_offers, offers_change}
 use Rattle.station_tables_records.proofs.TwoTableLemmas.{both_then}
-use Rattle.station_tables_rows.proofs.OfferLemmas.{add_offer, offer_added, owned_added, lacks_span}
+use Rattle.station_tables_records.proofs.OfferLemmas.{add_offer, offer_added, owned_added, lacks_span}
 use Rattle.station_tables_statements.specs.Calls.{LacksSpanNow}
 use Rattle.station_tables_statements.proofs.StandLemmas.{on_ok_so}
 use Rattle.station_tables_statements.proofs.offers.insert_offer.Goals as goal

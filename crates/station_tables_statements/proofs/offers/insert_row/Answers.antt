@@ -1,9 +1,9 @@
 -- `insert_row`: adds the row of an offer.
 use Rattle.std.proofs.Common.{subst}
-use Rattle.station_tables_texts.proofs.InsideLemmas.{Executed, writes_inside, made_inside}
-use Rattle.station_tables_texts.proofs.Texts.{insert_offer_text}
+use Rattle.station_tables_records.proofs.InsideLemmas.{Executed, writes_inside, made_inside}
+use Rattle.station_tables_records.proofs.Texts.{insert_offer_text}
 use Rattle.station_tables_records.specs.OfferRows.{offer_row}
-use Rattle.station_tables_schema.proofs.OfferLemmas.{puts_offer}
+use Rattle.station_tables_statements.proofs.OfferLemmas.{puts_offer}
 use Rattle.station_tables_statements.proofs.offers.insert_row.Goals as goal
 
 pub returns : goal.returns

@@ -2,9 +2,9 @@
 use Rattle.std.proofs.Common.{map, refl, ap, ◌∙◌}
 use Rattle.std.proofs.lemmas.Result.{IfOk-weaker}
 use Rattle.channel_view_model.specs.Seen.{grant_of}
-use Rattle.station_tables_schema.proofs.AskedLemmas.{found_part}
-use Rattle.station_tables_schema.proofs.OfferLemmas.{shows_lent}
-use Rattle.station_tables_texts.proofs.OfferTextLemmas.{offer_texts}
+use Rattle.station_tables_statements.proofs.AskedLemmas.{found_part}
+use Rattle.station_tables_statements.proofs.OfferLemmas.{shows_lent}
+use Rattle.station_tables_records.proofs.OfferTextLemmas.{offer_texts}
 use Rattle.station_tables_records.specs.OfferRows.{is_offer_to}
 use Rattle.station_tables_statements.proofs.LookLemmas.{look_after}
 use Rattle.station_tables_statements.proofs.WindowLemmas.{reads_of, offers_found}

@@ -3,12 +3,12 @@ use Rattle.std.proofs.Common.{refl, sym, ap, ◌∙◌}
 use Rattle.std.specs.Option.{option_and_then}
 use Rattle.vault_core.specs.Offer.{is_open_to}
 use Rattle.channel_view_model.specs.Tables.{of_channel}
-use Rattle.station_tables_schema.proofs.AskedLemmas.{found_part}
-use Rattle.station_tables_schema.proofs.OfferLemmas.{shows_open_offer}
-use Rattle.station_tables_texts.proofs.OfferTextLemmas.{offer_texts}
+use Rattle.station_tables_statements.proofs.AskedLemmas.{found_part}
+use Rattle.station_tables_statements.proofs.OfferLemmas.{shows_open_offer}
+use Rattle.station_tables_records.proofs.OfferTextLemmas.{offer_texts}
 use Rattle.station_tables_records.specs.OfferRows.{is_offer_open}
-use Rattle.station_tables_schema.specs.Rows.{offers_in}
-use Rattle.station_tables_texts.specs.Inside.{inside}
+use Rattle.station_tables_statements.specs.Rows.{offers_in}
+use Rattle.station_tables_records.specs.Inside.{inside}
 use Rattle.station_tables_statements.specs.Calls.{set_in}
 use Rattle.station_tables_statements.proofs.FoundLemmas.{first_alone_is}
 use Rattle.station_tables_statements.proofs.WindowLemmas.{offers_found}

@@ -3,15 +3,15 @@ use Rattle.std.proofs.Common.{ℕ, Bool, true, ◌&&◌, List, [], ◌∷◌, re
 use Rattle.std.specs.Prelude.{◌==◌}
 use Rattle.vault_core.specs.declared.offer.Offer.{Offer}
 use Rattle.channel_view_model.specs.Tables.{alter_row}
-use Rattle.station_tables_rows.specs.OfferRows.{OfferSet}
+use Rattle.station_tables_records.specs.MadeOffers.{OfferSet}
 use Rattle.station_tables_records.specs.TablePairs.{offer_rows_in}
-use Rattle.station_tables_texts.proofs.InsideLemmas.{Executed, writes_inside, made_inside}
-use Rattle.station_tables_texts.specs.Values.{of_nat}
-use Rattle.station_tables_texts.proofs.Texts.{withdraw_offer_text}
-use Rattle.station_tables_schema.proofs.OfferLemmas.{withdraws_offer}
-use Rattle.station_tables_schema.proofs.SpanLemmas.{of_offers, offers_change}
-use Rattle.station_tables_rows.proofs.OfferLemmas.{made_changed, owned_changed}
-use Rattle.station_tables_texts.specs.Inside.{inside}
+use Rattle.station_tables_records.proofs.InsideLemmas.{Executed, writes_inside, made_inside}
+use Rattle.station_tables_records.specs.Values.{of_nat}
+use Rattle.station_tables_records.proofs.Texts.{withdraw_offer_text}
+use Rattle.station_tables_statements.proofs.OfferLemmas.{withdraws_offer}
+use Rattle.station_tables_statements.proofs.SpanLemmas.{of_offers, offers_change}
+use Rattle.station_tables_records.proofs.OfferLemmas.{made_changed, owned_changed}
+use Rattle.station_tables_records.specs.Inside.{inside}
 use Rattle.station_tables_statements.proofs.offers.withdraw_offer.Goals as goal
 
 pub returns : goal.returns

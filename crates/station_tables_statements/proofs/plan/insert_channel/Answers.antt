@@ -1,9 +1,9 @@
 -- `insert_channel`: adds a channel of the plan, whose number is new, while no channel has a day and nothing was aired.
 use Rattle.std.proofs.Common.{subst}
-use Rattle.station_tables_texts.proofs.InsideLemmas.{Executed, writes_inside, made_inside}
-use Rattle.station_tables_texts.proofs.Texts.{insert_channel_text}
+use Rattle.station_tables_records.proofs.InsideLemmas.{Executed, writes_inside, made_inside}
+use Rattle.station_tables_records.proofs.Texts.{insert_channel_text}
 use Rattle.station_tables_records.specs.ChannelRows.{channel_row}
-use Rattle.station_tables_schema.proofs.StatementLemmas.{inserts_channel}
+use Rattle.station_tables_statements.proofs.StatementLemmas.{inserts_channel}
 use Rattle.station_tables_statements.proofs.plan.insert_channel.Goals as goal
 
 pub returns : goal.returns

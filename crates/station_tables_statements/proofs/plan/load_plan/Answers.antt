@@ -1,12 +1,12 @@
 -- `load_plan`: the channel's row of the plan, or `None` where it isn't in it.
 use Rattle.std.proofs.Common.{sym, ap, ◌∙◌}
 use Rattle.std.specs.Prelude.{slice_get}
-use Rattle.station_tables_schema.proofs.AskedLemmas.{found_part}
-use Rattle.station_tables_schema.proofs.StatementLemmas.{shows_channel}
-use Rattle.station_tables_texts.proofs.TextLemmas.{channel_texts}
-use Rattle.station_tables_schema.proofs.ViewLemmas.{first_found}
+use Rattle.station_tables_statements.proofs.AskedLemmas.{found_part}
+use Rattle.station_tables_statements.proofs.StatementLemmas.{shows_channel}
+use Rattle.station_tables_records.proofs.TextLemmas.{channel_texts}
+use Rattle.station_tables_statements.proofs.ViewLemmas.{first_found}
 use Rattle.station_tables_records.specs.ChannelRows.{is_channel}
-use Rattle.station_tables_texts.specs.Inside.{inside}
+use Rattle.station_tables_records.specs.Inside.{inside}
 use Rattle.station_tables_statements.specs.Calls.{set_in}
 use Rattle.station_tables_statements.proofs.plan.load_plan.Goals as goal
 

@@ -1,10 +1,10 @@
 -- `insert_span`: adds the window of an offer that has none.
 use Rattle.std.proofs.Common.{ℕ, subst}
-use Rattle.station_tables_rows.specs.declared.offer_rows.SpanRow.{SpanRow}
-use Rattle.station_tables_texts.proofs.InsideLemmas.{Executed, writes_inside, made_inside}
-use Rattle.station_tables_texts.proofs.Texts.{insert_span_text}
+use Rattle.station_tables_records.specs.declared.offer_rows.SpanRow.{SpanRow}
+use Rattle.station_tables_records.proofs.InsideLemmas.{Executed, writes_inside, made_inside}
+use Rattle.station_tables_records.proofs.Texts.{insert_span_text}
 use Rattle.station_tables_records.specs.SpanRows.{span_row}
-use Rattle.station_tables_schema.proofs.SpanLemmas.{puts_span}
+use Rattle.station_tables_statements.proofs.SpanLemmas.{puts_span}
 use Rattle.station_tables_statements.proofs.spans.insert_span.Goals as goal
 
 pub returns : goal.returns

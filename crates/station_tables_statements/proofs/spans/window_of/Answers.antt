@@ -3,14 +3,14 @@ use Rattle.std.proofs.Common.{[], ◌∷◌, ℕ, sym, ap, ◌∙◌}
 use Rattle.std.specs.Prelude.{slice_get}
 use Rattle.std.specs.Option.{option_map}
 use Rattle.station_tables_records.specs.TablePairs.{offer_rows_in}
-use Rattle.station_tables_texts.specs.Values.{of_nat}
-use Rattle.station_tables_rows.specs.declared.offer_rows.SpanRow.{SpanRow}
-use Rattle.station_tables_rows.specs.OfferRows.{is_span}
-use Rattle.station_tables_texts.specs.Inside.{inside}
-use Rattle.station_tables_schema.proofs.AskedLemmas.{found_part}
-use Rattle.station_tables_schema.proofs.SpanLemmas.{shows_span_of}
-use Rattle.station_tables_texts.proofs.SpanTextLemmas.{span_texts}
-use Rattle.station_tables_schema.proofs.ViewLemmas.{first_found}
+use Rattle.station_tables_records.specs.Values.{of_nat}
+use Rattle.station_tables_records.specs.declared.offer_rows.SpanRow.{SpanRow}
+use Rattle.station_tables_records.specs.MadeOffers.{is_span}
+use Rattle.station_tables_records.specs.Inside.{inside}
+use Rattle.station_tables_statements.proofs.AskedLemmas.{found_part}
+use Rattle.station_tables_statements.proofs.SpanLemmas.{shows_span_of}
+use Rattle.station_tables_records.proofs.SpanTextLemmas.{span_texts}
+use Rattle.station_tables_statements.proofs.ViewLemmas.{first_found}
 use Rattle.station_tables_statements.proofs.spans.window_of.Goals as goal
 
 pub find_rows-requires : goal.find_rows-requires

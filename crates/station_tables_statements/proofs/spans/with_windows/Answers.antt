@@ -3,9 +3,9 @@ use Rattle.std.proofs.Common.{◌≡◌, ◌+◌, suc, [], ◌∷◌, ◌++◌, 
 use Rattle.std.proofs.lemmas.List.{take_all}
 use Rattle.sqlite.specs.State.{HasCleanDisk}
 use Rattle.vault_core.specs.declared.offer.Offer.{Offer}
-use Rattle.station_tables_texts.specs.Inside.{inside}
+use Rattle.station_tables_records.specs.Inside.{inside}
 use Rattle.station_tables_records.specs.TablePairs.{offer_rows_in}
-use Rattle.station_tables_rows.specs.OfferRows.{OfferSet, offer_made, window_at}
+use Rattle.station_tables_records.specs.MadeOffers.{OfferSet, offer_made, window_at}
 use Rattle.station_tables_statements.proofs.LookLemmas.{looks_on, read_after, centre_looked}
 use Rattle.station_tables_statements.proofs.WindowLemmas.{looked_offers, made_one}
 use Rattle.station_tables_statements.proofs.spans.with_windows.Goals as goal

@@ -1,8 +1,8 @@
 -- The loops of `with_windows` (these offers, each with its channel, with their windows).
 use Rattle.std.proofs.Common.{◌≡◌, map, take, Ok}
-use Rattle.station_tables_texts.specs.Inside.{inside, Looks}
+use Rattle.station_tables_records.specs.Inside.{inside, Looks}
 use Rattle.station_tables_records.specs.TablePairs.{offer_rows_in}
-use Rattle.station_tables_rows.specs.OfferRows.{offer_made}
+use Rattle.station_tables_records.specs.MadeOffers.{offer_made}
 use Rattle.station_tables_statements.specs.Calls.{WhileCleanCentre}
 use Rattle.station_tables_statements.proofs.spans.with_windows.Given as goal
 

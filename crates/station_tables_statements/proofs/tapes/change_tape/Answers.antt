@@ -1,10 +1,10 @@
 -- `change_tape`: puts a tape in the place of the one with its number.
 use Rattle.std.proofs.Common.{ℕ, subst}
 use Rattle.vault_core.specs.declared.tape.Tape.{Tape}
-use Rattle.station_tables_texts.proofs.InsideLemmas.{Executed, writes_inside, made_inside}
-use Rattle.station_tables_texts.proofs.Texts.{change_tape_text}
+use Rattle.station_tables_records.proofs.InsideLemmas.{Executed, writes_inside, made_inside}
+use Rattle.station_tables_records.proofs.Texts.{change_tape_text}
 use Rattle.station_tables_records.specs.TapeRows.{tape_row}
-use Rattle.station_tables_schema.proofs.StatementLemmas.{sets_tape}
+use Rattle.station_tables_statements.proofs.StatementLemmas.{sets_tape}
 use Rattle.station_tables_statements.proofs.tapes.change_tape.Goals as goal
 
 pub returns : goal.returns

@@ -1,9 +1,9 @@
 -- `insert_tape`: adds a tape of this channel, 1 to 999, whose number is new in it.
 use Rattle.std.proofs.Common.{subst}
-use Rattle.station_tables_texts.proofs.InsideLemmas.{Executed, writes_inside, made_inside}
-use Rattle.station_tables_texts.proofs.Texts.{insert_tape_text}
+use Rattle.station_tables_records.proofs.InsideLemmas.{Executed, writes_inside, made_inside}
+use Rattle.station_tables_records.proofs.Texts.{insert_tape_text}
 use Rattle.station_tables_records.specs.TapeRows.{tape_row}
-use Rattle.station_tables_schema.proofs.StatementLemmas.{inserts_tape}
+use Rattle.station_tables_statements.proofs.StatementLemmas.{inserts_tape}
 use Rattle.station_tables_statements.proofs.tapes.insert_tape.Goals as goal
 
 pub returns : goal.returns

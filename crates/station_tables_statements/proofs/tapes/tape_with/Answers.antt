@@ -3,11 +3,11 @@ use Rattle.std.proofs.Common.{sym, ap, ◌∙◌}
 use Rattle.std.specs.Option.{option_and_then}
 use Rattle.std.specs.Prelude.{bytes_eq}
 use Rattle.channel_view_model.specs.Tables.{of_channel}
-use Rattle.station_tables_schema.proofs.AskedLemmas.{found_part}
-use Rattle.station_tables_schema.proofs.StatementLemmas.{shows_tape_with}
-use Rattle.station_tables_texts.proofs.TextLemmas.{tape_texts}
+use Rattle.station_tables_statements.proofs.AskedLemmas.{found_part}
+use Rattle.station_tables_statements.proofs.StatementLemmas.{shows_tape_with}
+use Rattle.station_tables_records.proofs.TextLemmas.{tape_texts}
 use Rattle.station_tables_records.specs.TapeRows.{is_tape_with}
-use Rattle.station_tables_texts.specs.Inside.{inside}
+use Rattle.station_tables_records.specs.Inside.{inside}
 use Rattle.station_tables_statements.proofs.FoundLemmas.{first_alone_is}
 use Rattle.station_tables_statements.specs.Calls.{set_in}
 use Rattle.station_tables_statements.proofs.tapes.tape_with.Goals as goal

@@ -16,7 +16,7 @@ returns-in-One c =
     ∙ ap (λ (ks : List Clip). let r : RowsSeen = record { clips = ks; grants = c.grants.result.now } in r)
     c.clips.ensures
     ∙ ap (λ (gs : List Grant). let r : RowsSeen = record { clips = clips; grants = gs } in r) c.grants.ensures in
-    IfOk-weaker c.alone.result _ _
+    IfOk-weaker c.single_source.result _ _
     (λ made is.
     subst (λ asked. AreSourceAnswers asked clips grants made.clips.items made.grants.items) (sym c.in-One.is) (
       is.0 ∙ ap clips_of c.find.ensures
@@ -24,4 +24,4 @@ returns-in-One c =
       is.1 ∙ ap grants_of c.find.ensures
           ∙ ap (λ (r : RowsSeen). grants_of (found (seen_of r.clips r.grants) c.in-One.source)) rows,
     ))
-    c.alone.ensures
+    c.single_source.ensures

@@ -2,7 +2,7 @@
 use Rattle.std.proofs.Common.{subst}
 use Rattle.std.proofs.lemmas.Result.{IfOk-weaker, IfErr-weaker}
 use Rattle.sqlite.specs.Held.{state}
-use Rattle.station_tables_schema.specs.Rows.{Stands}
+use Rattle.station_tables_statements.specs.Rows.{Stands}
 use Rattle.station_tables.specs.Store.{store_state}
 use Rattle.station_tables.proofs.StopLemmas.{centre_in, found_tables, rows_held}
 use Rattle.station_tables.proofs.connected.SqlRows.open_after_refusal.Goals as goal

@@ -1,7 +1,7 @@
 -- The clips that answer a question.
 use Rattle.std.proofs.lemmas.Result.{IfOk-weaker}
 use Rattle.station_tables_records.proofs.ClipRowLemmas.{clip_rows}
-use Rattle.station_tables_texts.proofs.TextLemmas.{clip_texts}
+use Rattle.station_tables_records.proofs.TextLemmas.{clip_texts}
 use Rattle.station_tables_statements.proofs.FoundLemmas.{reads_each, question_found}
 use Rattle.station_tables_statements.proofs.clips.ClipNumberedRow.find.Goals as goal
 

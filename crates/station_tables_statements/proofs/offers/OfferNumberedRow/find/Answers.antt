@@ -1,9 +1,9 @@
 -- The offers that answer a question, with their windows.
 use Rattle.std.proofs.Common.{◌∙◌}
 use Rattle.std.proofs.lemmas.Result.{IfOk-weaker}
-use Rattle.station_tables_texts.specs.Inside.{inside}
+use Rattle.station_tables_records.specs.Inside.{inside}
 use Rattle.station_tables_records.proofs.OfferRowLemmas.{offer_rows}
-use Rattle.station_tables_texts.proofs.OfferTextLemmas.{offer_texts}
+use Rattle.station_tables_records.proofs.OfferTextLemmas.{offer_texts}
 use Rattle.station_tables_statements.proofs.FoundLemmas.{reads_each, question_found}
 use Rattle.station_tables_statements.proofs.LookLemmas.{was_clean, look_after, read_is_look}
 use Rattle.station_tables_statements.proofs.SameLemmas.{centre_after}

@@ -1,7 +1,7 @@
 -- The tapes that answer a question.
 use Rattle.std.proofs.lemmas.Result.{IfOk-weaker}
 use Rattle.station_tables_records.proofs.TapeRowLemmas.{tape_rows}
-use Rattle.station_tables_texts.proofs.TextLemmas.{tape_texts}
+use Rattle.station_tables_records.proofs.TextLemmas.{tape_texts}
 use Rattle.station_tables_statements.proofs.FoundLemmas.{reads_each, question_found}
 use Rattle.station_tables_statements.proofs.tapes.TapeNumberedRow.find.Goals as goal
 

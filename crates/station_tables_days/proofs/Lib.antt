@@ -1,9 +1,0 @@
-pub mod LookLemmas
-pub mod SeenLemmas
-pub mod WriteLemmas
-pub mod AiringChangeLemmas
-pub mod PutLemmas
-pub mod DayWriteLemmas
-pub mod ChangeLemmas
-pub mod ItemLemmas
-pub mod FromLemmas

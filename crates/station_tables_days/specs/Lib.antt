@@ -1,2 +1,0 @@
-pub mod AiredCalls
-pub mod DayCalls

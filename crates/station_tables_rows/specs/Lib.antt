@@ -1,3 +1,0 @@
-pub mod DayRows
-pub mod AiredRows
-pub mod OfferRows

@@ -1,0 +1,16 @@
+-- All rows of the table `tape`, by their keys.
+use Rattle.station_tables_records.specs.TapeRows.{tape_table, tape_fits}
+use Rattle.station_tables_statements.proofs.AskedLemmas.{all_answers}
+use Rattle.station_tables_statements.proofs.FirstLemmas.{all_tapes}
+use Rattle.station_tables_statements.proofs.tapes.Tuple2U16TapeStoredTable.ask_all.Goals as goal
+
+pub ask-requires : goal.ask-requires
+ask-requires g c = record { reading = all_tapes.reads }
+
+pub returns : goal.returns
+returns g c =
+    let e = c.ask.ensures in
+    let all =
+    all_answers g.S.Store _ _ (λ v. v.items) tape_table tape_fits all_tapes c.ask.result e.reads e.some e.none e.err in
+    record
+    { reads = e.reads; rise = e.rise; rows = all.rows; none = all.none; short = all.short; missing = λ no. absurd no }
