@@ -79,7 +79,8 @@ pub record AnswersWhole {S : Type 0} (is_clean : S → Type 0) (stands_for may_l
   pub appended : Appends before now written
   pub stops : Stops result pieces rest answers written left
 
--- so far: the pieces at the front of the bytes were answered, and rest is what is left
+-- So far: the pieces at the front of the bytes were answered, and rest is what is left. It is what a loop keeps from read to
+-- read; what a whole stream is answered is said over all its bytes at once, by Serves.
 pub record SoFar {S : Type 0} (is_clean : S → Type 0) (stands_for may_leave : S → Centre → Type 0)
     (leaves_sets : S → Type 0) (old new : S)
     (before now : Option (List ℕ))

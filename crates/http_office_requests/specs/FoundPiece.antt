@@ -53,7 +53,8 @@ pub record IsWholeHead (bytes : List ℕ) (head : WholeHead) : Type 0 where
   pub text : IsHeadText (take head.end bytes)
   pub framed : IsFramed (take head.end bytes) (Body head.method head.path head.content)
 
--- what was found of the bytes before more came
+-- What was found of the bytes before more came. It is what a reader keeps, and no term of RFC 9112: it says why the front
+-- of a long piece isn't read again at each read. What is answered rests on IsPiece alone.
 abbrev pub IsFramingProgress : List ℕ → FramingProgress → Type 0
 IsFramingProgress bytes (NoEnd n) = (n ≤ length bytes) × (n ≤ head_limit) × (head_len (take n bytes) ≡ None)
 IsFramingProgress bytes (Head head) = IsWholeHead bytes head

@@ -6,7 +6,7 @@ ghost use Rattle.channel_plan.specs.declared.refusal.Refusal.{Refusal};
 ghost use Rattle.channel_view_model.specs.Centre.{Centre};
 ghost use Rattle.http_office.specs.declared.serving.End.{End};
 ghost use Rattle.station_tables_statements.specs.Rows.{StandsFor};
-ghost use Rattle.station_tables.specs.Store.{LeavesFound};
+ghost use Rattle.station_tables.specs.Store.{LeavesFound, StandsWithPlan};
 ghost use Rattle.playout_actions.specs.Answering.{ServesOn};
 ghost use Rattle.playout_cli.specs.Kept.{BeginsWith};
 ghost use Rattle.playout_cli.specs.Refusing.{RefusesTables};
@@ -61,7 +61,7 @@ fn store_in<S: Alter>(
 ) -> Result<SqlRows<S>, (Connection<S>, Refusal)>
     requires idle { conn.in_transaction ≡ false }
     ensures rows { IfOk result (λ s. HasCleanDisk (state S.Store s.conn) → (rows : Centre) →
-        BeginsWith plan.now (state S.Store conn) rows → StandsFor (state S.Store s.conn) rows) }
+        BeginsWith plan.now (state S.Store conn) rows → StandsWithPlan S.Store s rows) }
     // A stop leaves just these.
     ensures alone { IfOk result (λ s. HasCleanDisk (state S.Store s.conn) → (rows : Centre) →
         BeginsWith plan.now (state S.Store conn) rows → (left : Centre) → MayLeave (state S.Store s.conn) left →

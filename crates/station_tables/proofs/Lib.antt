@@ -8,6 +8,7 @@ pub mod DayChangeLemmas
 pub mod ItemLemmas
 pub mod FromLemmas
 pub mod StandLemmas
+pub mod KeptLemmas
 pub mod ChangeLemmas
 mod PlanLemmas
 mod TakenLemmas

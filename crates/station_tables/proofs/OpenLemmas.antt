@@ -100,31 +100,6 @@ for_code (Err e) Q says fault then = by
       | inr short ↦ absurd (let no : Unavailable ≡ SchemaVersion = sym short ∙ version in cc)
     ]
 
-pub on_code_all : {X : Type 0} (r : Result X Code) (code : Code) {Q : Type 0} → Q → OnCode r code Q
-on_code_all (Ok x) code q = tt
-on_code_all (Err e) code q = λ is. q
-
-pub on_ok_all : {X E : Type 0} (r : Result X E) {Q : Type 0} → Q → OnOk r Q
-on_ok_all (Ok x) holds = holds
-on_ok_all (Err e) holds = tt
-
-pub on_err_all : {X E : Type 0} (r : Result X E) {Q : Type 0} → Q → OnErr r Q
-on_err_all (Ok x) q = tt
-on_err_all (Err e) q = q
-
--- what never is, of a refusal for another's tables
-pub all_of : {X : Type 0} (r : Result X Code) {Clean : Type 0} {Of : Version → Type 0} {Is : Version → Type 0}
-    → (Clean → (version : Version) → Of version → Is version → OnCode r NotOurs ⊥)
-    → OnCode r NotOurs (Clean → (version : Version) → Of version → Is version → ⊥)
-all_of (Ok x) never = tt
-all_of (Err e) never = λ is clean version of one. never clean version of one is
-
--- what is said of each error, without it
-pub err_then : {X E : Type 0} (r : Result X E) (P : E → Type 0) {Q : Type 0} → IfErr r P → ((e : E) → P e → Q)
-    → OnErr r Q
-err_then (Ok x) P p so = tt
-err_then (Err e) P p so = so e p
-
 -- a fault is of no version
 pub no_version : {X : Type 0} (r : Result X Code) (P : Type 0) → IfErr r IsFault → OnCode r SchemaVersion P
 no_version (Ok x) P fault = tt

@@ -1,12 +1,12 @@
 -- The plan of a new centre, channel after channel.
 use Rattle.std.proofs.Common.{◌≡◌, ℕ, cond, subst, true, false, List, [], ◌∷◌, refl, ap, ◌∙◌, arith, Less}
-use Rattle.std.specs.Prelude.{◌==◌, nat_lt, find, Some}
+use Rattle.std.specs.Prelude.{◌==◌, nat_lt, find, Some, IsPermutation, IsSorted}
 use Rattle.std.specs.List.{AllByRecursion, list_any, list_all}
 use Rattle.std.proofs.lemmas.Bool.Decides.{nat_tests}
 use Rattle.std.proofs.lemmas.List.Sorted.{IsPermutation-sym}
 use Rattle.sqlite_keyed.specs.Lists.{insert_sorted, sort_by}
 use Rattle.sqlite_keyed.proofs.ListLemmas.{all_weaker, ascending_weaker, none_from_any}
-use Rattle.sqlite_keyed.proofs.SortLemmas.{IsPermutation-sort_by}
+use Rattle.sqlite_keyed.proofs.SortLemmas.{IsPermutation-sort_by, sorted_is-sort_by}
 use Rattle.sqlite_trees.specs.Tree.{IsAscending}
 use Rattle.sqlite.specs.Effect.{IsDatabase}
 use Rattle.sqlite.specs.State.{State}
@@ -79,6 +79,16 @@ plan_rows (x ∷ xs) h =
     let parts = plan_parts x xs h in
     let more = plan_rows xs parts.2 in
     ((parts.0, more.0), (none_from_any _ xs parts.1, more.1))
+
+-- each has a number of its own
+plan_keys : (plan : List PlanRow) → is_plan plan ≡ true → HaveKeys channel_cmp plan
+plan_keys plan h = ascending_weaker _ _ (λ a b differ. grind (arith, nat_tests, differ)) plan (plan_rows plan h).1
+
+-- rows that are sorted by number are the plan in order
+pub sorted_plan : (plan rows : List PlanRow) → is_plan plan ≡ true → IsPermutation plan rows → IsSorted channel_cmp rows
+    → rows ≡ (plan_in_order plan).channels
+sorted_plan plan rows h same sorted =
+    sorted_is-sort_by channel_cmp channel_cmp_total plan rows (plan_keys plan h) same sorted
 
 all_above : (row : PlanRow) (rows : List PlanRow) → AllByRecursion (λ other. channel_cmp row other ≡ Less) rows
     → list_all (λ (other : PlanRow). nat_lt row.ch other.ch) rows ≡ true

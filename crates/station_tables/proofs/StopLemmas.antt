@@ -17,7 +17,7 @@ use Rattle.station_tables_statements.specs.Standing.{IsFault}
 use Rattle.station_tables.specs.Tables.{LeavesSets}
 use Rattle.station_tables.specs.declared.finding.Version.{Version}
 use Rattle.station_tables.specs.declared.finding.Version.TheVariants.{First, Second}
-use Rattle.station_tables.specs.Opening.{HasTablesOf, IsCentreIn, IsCentreOf, database_in, number_of, rows_at}
+use Rattle.station_tables.specs.Opening.{HasTablesOf, IsCentreIn, IsCentreOf, database_in, rows_at}
 use Rattle.station_tables.specs.Opening.{schema_of}
 use Rattle.station_tables.proofs.FindLemmas.{known_version, one_version, version_in}
 use Rattle.station_tables.specs.Store.{HoldsAt, LeavesCentres}

@@ -1,12 +1,13 @@
 -- Part of the promise: what a store shows, what an opening leaves, and what it finds that a stop left.
-use Rattle.std.specs.Prelude.{◌≡◌, ◌⊎◌, IsTrue}
+use Rattle.std.specs.Prelude.{◌≡◌, ◌⊎◌, List, IsTrue}
 use Rattle.sqlite_trees.specs.Tree.{Trees}
 use Rattle.sqlite_trees.specs.declared.store.Store.{Ghosts}
 use Rattle.sqlite.specs.Held.{state}
 use Rattle.sqlite.specs.State.{State, HasCleanDisk}
+use Rattle.channel_plan.specs.declared.plan.PlanRow.{PlanRow}
 use Rattle.channel_view_model.specs.Centre.{Centre}
 use Rattle.station_tables_statements.specs.First.{HoldsFirstSet}
-use Rattle.station_tables_statements.specs.Rows.{Holds}
+use Rattle.station_tables_statements.specs.Rows.{Holds, StandsFor}
 use Rattle.station_tables_records.specs.Schema.{first_schema}
 use Rattle.station_tables.specs.declared.finding.Version.{Version}
 use Rattle.station_tables.specs.declared.finding.Version.TheVariants.{First, Second}
@@ -15,6 +16,14 @@ use Rattle.station_tables.specs.declared.connected.SqlRows.{SqlRows}
 -- what its connection shows
 abbrev pub store_state : {S : Type 0} (g : Ghosts S) → SqlRows S g → State
 store_state g s = state g s.conn
+
+-- the rows of the plan that it keeps
+abbrev pub store_plan : {S : Type 0} (g : Ghosts S) → SqlRows S g → List PlanRow
+store_plan g s = s.plan.items
+
+-- It stands for this set, of which it keeps the plan.
+abbrev pub StandsWithPlan : {S : Type 0} (g : Ghosts S) → SqlRows S g → Centre → Type 0
+StandsWithPlan g s rows = StandsFor (store_state g s) rows × (rows.channels ≡ store_plan g s)
 
 -- Nothing was made: what is committed is what was, or what the database showed.
 pub record LeavesFound (old new : State) : Type 0 where

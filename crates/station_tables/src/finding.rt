@@ -15,9 +15,9 @@ ghost use Rattle.station_tables_records.specs.LineRows.{line_table, line_fits};
 ghost use Rattle.station_tables_records.specs.MadeAirings.{HaveNoHoles, MakeAirings, airings_made};
 ghost use Rattle.station_tables_records.specs.MadeDays.{MakeDays, Rise, days_made, plan_cmp};
 ghost use Rattle.station_tables_records.specs.OfficeRow.{HasVersion};
-ghost use Rattle.station_tables_statements.specs.Rows.{OwnsItems};
+ghost use Rattle.station_tables_statements.specs.Rows.{OwnsItems, channels_in};
 ghost use Rattle.station_tables_statements.specs.Standing.{OnCode, IsFault};
-ghost use Rattle.station_tables_statements.specs.Calls.{HasFirstSchema, WhileKnownTables};
+ghost use Rattle.station_tables_statements.specs.Calls.{HasFirstSchema, HasKnownSchema, WhileKnownTables};
 ghost use Rattle.station_tables.specs.Opening.{HasTablesOf, HoldsRules, IsCentreIn, IsCentreOf};
 ghost use Rattle.station_tables.specs.Opening.{OwnsWindows, FitWindows};
 ghost use Rattle.station_tables.specs.Opening.{number_of, offers_at, rows_at};
@@ -45,6 +45,13 @@ pub enum Version {
     First,
     /// With it.
     Second,
+}
+
+/// What was found of a centre: the version of its tables, and its plan by number.
+#[derive(Drop)]
+pub(crate) struct FoundCentre {
+    pub(crate) version: Version,
+    pub(crate) plan: Vec<PlanRow>,
 }
 
 // What the failure of a statement says of the tables: nothing, where memory, the disk or a limit stopped it, and else
@@ -199,6 +206,8 @@ fn set_of_tables<S: Alter>(
     ensures set { HasTablesOf version (inside S.Store tx.old) → HasCleanDisk (inside S.Store tx.new) →
         IfOk result (λ rows. (rows ≡ rows_at version (inside S.Store tx.old).now.trees)
         × (KeepsRules rows → HoldsRules version (inside S.Store tx.old).now.trees)) }
+    ensures plan { WhileKnownTables S.Store tx.old tx.new
+        (IfOk result (λ rows. rows.channels ≡ channels_in (inside S.Store tx.old).now.trees)) }
     ensures ours { HasTablesOf version (inside S.Store tx.old) → HasCleanDisk (inside S.Store tx.new) →
         OnCode result Code.NotOurs (HoldsRules version (inside S.Store tx.old).now.trees → ⊥) }
     ensures missing { HasFirstSchema (inside S.Store tx.old) → HasCleanDisk (inside S.Store tx.new) →
@@ -221,13 +230,23 @@ fn set_of_tables<S: Alter>(
     })
 }
 
-// Tests that the rows can be read and keep the rules.
+// The plan in a set of rows.
+fn plan_in(rows: CentreRows) -> Vec<PlanRow>
+    ensures { result.items ≡ rows.channels }
+{
+    let CentreRows { channels, .. } = rows;
+    channels
+}
+
+// Tests that the rows can be read and keep the rules, and gives their plan.
 fn test_rows<S: Alter>(
     alloc: Global,
     tx: &mut Transaction<'_, S>,
     version: Version,
-) -> Result<(), Code>
+) -> Result<Vec<PlanRow>, Code>
     ensures reads { Reads S.Store tx.old tx.new result }
+    ensures plan { WhileKnownTables S.Store tx.old tx.new
+        (IfOk result (λ plan. plan.items ≡ channels_in (inside S.Store tx.old).now.trees)) }
     ensures rules { HasTablesOf version (inside S.Store tx.old) → HasCleanDisk (inside S.Store tx.new) →
         OnOk result (HoldsRules version (inside S.Store tx.old).now.trees) }
     ensures ours { HasTablesOf version (inside S.Store tx.old) → HasCleanDisk (inside S.Store tx.new) →
@@ -238,17 +257,20 @@ fn test_rows<S: Alter>(
 {
     let rows = set_of_tables(alloc, tx, version)?;
     match keeps_rules(alloc, &rows) {
-        Ok(true) => Ok(()),
+        Ok(true) => Ok(plan_in(rows)),
         Ok(false) => Err(Code::NotOurs),
         Err(_) => Err(Code::Unavailable),
     }
 }
 
 // Tests that the tables are those of a centre.
-fn test_tables<S: Alter>(alloc: Global, tx: &mut Transaction<'_, S>) -> Result<Version, Code>
+fn test_tables<S: Alter>(alloc: Global, tx: &mut Transaction<'_, S>) -> Result<FoundCentre, Code>
     ensures reads { Reads S.Store tx.old tx.new result }
-    ensures rows { HasCleanDisk (inside S.Store tx.new) → IfOk result (λ version.
-        HasTablesOf version (inside S.Store tx.old) → IsCentreOf version (inside S.Store tx.old).now) }
+    ensures rows { HasCleanDisk (inside S.Store tx.new) → IfOk result (λ found.
+        HasTablesOf found.version (inside S.Store tx.old) →
+        IsCentreOf found.version (inside S.Store tx.old).now) }
+    ensures plan { WhileKnownTables S.Store tx.old tx.new
+        (IfOk result (λ found. found.plan.items ≡ channels_in (inside S.Store tx.old).now.trees)) }
     ensures version { WhileKnownTables S.Store tx.old tx.new (OnCode result Code.SchemaVersion
         ((version : ℤ) × HasVersion version ((inside S.Store tx.old).now.trees 0)
         × (version ≢ pos 1) × (version ≢ pos 2))) }
@@ -258,19 +280,19 @@ fn test_tables<S: Alter>(alloc: Global, tx: &mut Transaction<'_, S>) -> Result<V
         ((version : ℤ) → HasVersion version ((inside S.Store tx.old).now.trees 0) →
         (version ≡ pos 1) ⊎ (version ≡ pos 2))) }
     ensures office { WhileKnownTables S.Store tx.old tx.new
-        (IfOk result (λ version. HasVersion (number_of version) ((inside S.Store tx.old).now.trees 0))) }
+        (IfOk result (λ found. HasVersion (number_of found.version) ((inside S.Store tx.old).now.trees 0))) }
     ensures missing { HasFirstSchema (inside S.Store tx.old) → HasCleanDisk (inside S.Store tx.new) →
-        IfOk result (λ version. version ≡ Version.First) }
+        IfOk result (λ found. found.version ≡ Version.First) }
     ensures codes { IfErr result (λ e. (e ≡ Code.SchemaVersion) ⊎ IsFault e) }
 {
     let version = test_office(tx)?;
-    test_rows(alloc, tx, version)?;
-    Ok(version)
+    let plan = test_rows(alloc, tx, version)?;
+    Ok(FoundCentre { version, plan })
 }
 
 /// Tests that the tables are those of a centre, in this order: the row of `office` reads, its version is 1 or 2, the
-/// rows of the other tables read and keep the rules. Success answers the version, and everything is committed: the
-/// commit changes nothing, so what was read is what is committed.
+/// rows of the other tables read and keep the rules. Success answers the version and the plan, and everything is
+/// committed: the commit changes nothing, so what was read is what is committed.
 ///
 /// Refused, nothing was: [`Code::SchemaVersion`] where there is another version, [`Code::NotOurs`] where a table or a
 /// row isn't a centre's, [`Code::Unavailable`] where memory, size or disk ran out. The caller keeps that no transaction
@@ -278,19 +300,21 @@ fn test_tables<S: Alter>(alloc: Global, tx: &mut Transaction<'_, S>) -> Result<V
 pub(crate) fn find_centre<S: Alter>(
     alloc: Global,
     conn: &mut Connection<S>,
-) -> Result<Version, Code>
+) -> Result<FoundCentre, Code>
     requires idle { conn.old.in_transaction ≡ false }
     ensures idle { conn.new.in_transaction ≡ false }
-    ensures found { IfOk result (FindsCentre (state S.Store conn.old) (state S.Store conn.new)) }
+    ensures found { IfOk result (λ found. FindsCentre (state S.Store conn.old) (state S.Store conn.new) found.version) }
+    ensures plan { HasKnownSchema (state S.Store conn.old) → HasCleanDisk (state S.Store conn.new) →
+        IfOk result (λ found. found.plan.items ≡ channels_in (state S.Store conn.old).now.trees) }
     ensures refused { IfErr result (FindsNoCentre (state S.Store conn.old) (state S.Store conn.new)) }
     // A stop leaves what it might leave before, or what the database showed.
     ensures survives { Survives (state S.Store conn.old) (state S.Store conn.new)
         (λ db. IsTrue (state S.Store conn.old).is_open × (db ≡ (state S.Store conn.old).now.trees)) }
 {
     let mut tx = conn.transaction();
-    let version = test_tables(alloc, &mut tx)?;
+    let found = test_tables(alloc, &mut tx)?;
     match tx.commit() {
-        Ok(()) => Ok(version),
+        Ok(()) => Ok(found),
         Err(_) => Err(Code::Unavailable),
     }
 }

@@ -1,5 +1,5 @@
 //! The tables of a new centre, with its plan, made for good.
-ghost use Rattle.std.specs.Prelude.{◌≡◌, true, false, OnOk, OnErr, IfErr, IsTrue};
+ghost use Rattle.std.specs.Prelude.{◌≡◌, true, false, OnOk, OnErr, IfErr, IfOk, IsTrue};
 ghost use Rattle.sqlite.specs.State.{HasCleanDisk, Survives};
 ghost use Rattle.sqlite.specs.Held.{state};
 ghost use Rattle.channel_plan.specs.Plan.{is_plan as is_plan_of};
@@ -15,6 +15,17 @@ use channel_plan::{Code, PlanRow};
 use sqlite::{Alter, Connection, Error, ErrorCode, Transaction};
 use sqlite_resolve::error::CompileError;
 use station_tables_statements::{insert_channel, insert_office};
+use std::alloc::{AllocError, Global};
+
+/// The rows of a plan, which the caller has tested, by number.
+pub(crate) fn rows_in_order(alloc: Global, plan: &[PlanRow]) -> Result<Vec<PlanRow>, AllocError>
+    requires { is_plan_of plan.now ≡ true }
+    ensures { IfOk result (λ rows. rows.items ≡ (plan_in_order plan.now).channels) }
+{
+    let mut rows = plan.to_vec(alloc)?;
+    rows.sort_unstable_by_key(|row| row.ch);
+    Ok(rows)
+}
 
 // Adds these channels to tables without a row but that of `office`, whose plan is tested.
 fn insert_plan<S: Alter>(tx: &mut Transaction<'_, S>, plan: &[PlanRow]) -> Result<(), Error>

@@ -24,6 +24,9 @@
 //! }
 //! ```
 //!
+//! The plan never changes once the centre was made. So a store keeps it, as it was made with it or found it, and stands
+//! for sets with this plan alone (`StandsWithPlan`).
+//!
 //! Each call is one transaction on a connection with none open: those that commit, and the one that tests what is
 //! opened, before it is taken for a centre: its version, that each of its tables' rows reads, and that the set which
 //! they make keeps the rules. A change of a day writes what differs, and reads nothing (`writes`, `puts`): its premise is

@@ -1,31 +1,33 @@
-//! What one channel sees, whole or just the part that a command needs, each in one transaction.
+//! What one channel sees, whole or just the part that a command needs, each in one transaction, by its row of the plan.
 ghost use Rattle.std.specs.Prelude.{◌≡◌, false, IfOk, IfSome, OnOk};
 ghost use Rattle.sqlite.specs.State.{HasCleanDisk, Survives};
 ghost use Rattle.sqlite.specs.Held.{state};
-ghost use Rattle.channel_view_model.specs.Centre.{Centre, view_of};
+ghost use Rattle.channel_view_model.specs.Centre.{Centre, plan_of, view_of};
 ghost use Rattle.station_tables_statements.specs.Rows.{StandsFor};
 ghost use Rattle.station_tables.specs.Tables.{LeavesSets};
 ghost use Rattle.channel_view_model.specs.Need.{IsFetched};
 ghost use Rattle.channel_view_model.specs.Rules.{KeepsRules};
 ghost use Rattle.channel_view_rules.specs.ViewRules.{KeepsViewRules};
 
+use channel_plan::PlanRow;
 use channel_view_model::{Need, Part, View};
 use sqlite::{Alter, Connection};
 use station_tables_reading::{read_part, read_view};
 use std::alloc::Global;
 use timecode::Unavailable;
 
-/// What the channel sees, or `None` where it isn't in the plan. Rows that don't read, or break a rule, are
+/// What the channel sees, or `None` where it has no row of the plan. Rows that don't read, or break a rule, are
 /// refused.
 pub(crate) fn load_view<S: Alter>(
     alloc: Global,
     conn: &mut Connection<S>,
     channel: u16,
+    plan: Option<PlanRow>,
 ) -> Result<Option<View>, Unavailable>
     requires idle { conn.old.in_transaction ≡ false }
     ensures idle { conn.new.in_transaction ≡ false }
     ensures view { HasCleanDisk (state S.Store conn.new) → (rows : Centre) → StandsFor (state S.Store conn.old) rows →
-        IfOk result (λ view. view ≡ view_of channel rows) }
+        plan_of channel rows ≡ plan → IfOk result (λ view. view ≡ view_of channel rows) }
     ensures rules { HasCleanDisk (state S.Store conn.new) → (rows : Centre) → StandsFor (state S.Store conn.old) rows →
         OnOk result (KeepsRules rows) }
     ensures shows { IfOk result (λ view. IfSome view KeepsViewRules) }
@@ -35,21 +37,22 @@ pub(crate) fn load_view<S: Alter>(
     ensures sets { LeavesSets (state S.Store conn.old) → LeavesSets (state S.Store conn.new) }
 {
     let mut tx = conn.transaction();
-    read_view(alloc, &mut tx, channel)
+    read_view(alloc, &mut tx, channel, plan)
 }
 
-/// The part of what the channel sees that a command needs, or `None` where it isn't in the plan, in one transaction.
-/// Rows that don't read are refused.
+/// The part of what the channel sees that a command needs, or `None` where it has no row of the plan. Rows that don't
+/// read are refused.
 pub(crate) fn fetch_part<S: Alter>(
     alloc: Global,
     conn: &mut Connection<S>,
     channel: u16,
+    plan: Option<PlanRow>,
     need: &Need,
 ) -> Result<Option<Part>, Unavailable>
     requires idle { conn.old.in_transaction ≡ false }
     ensures idle { conn.new.in_transaction ≡ false }
     ensures part { HasCleanDisk (state S.Store conn.new) → (rows : Centre) → StandsFor (state S.Store conn.old) rows →
-        IfOk result (IsFetched need.now (view_of channel rows)) }
+        plan_of channel rows ≡ plan → IfOk result (IsFetched need.now (view_of channel rows)) }
     ensures rules { HasCleanDisk (state S.Store conn.new) → (rows : Centre) → StandsFor (state S.Store conn.old) rows →
         OnOk result (KeepsRules rows) }
     ensures same { HasCleanDisk (state S.Store conn.new) → (rows : Centre) → StandsFor (state S.Store conn.old) rows →
@@ -58,5 +61,5 @@ pub(crate) fn fetch_part<S: Alter>(
     ensures sets { LeavesSets (state S.Store conn.old) → LeavesSets (state S.Store conn.new) }
 {
     let mut tx = conn.transaction();
-    read_part(alloc, &mut tx, channel, need)
+    read_part(alloc, &mut tx, channel, plan, need)
 }

@@ -6,7 +6,7 @@ ghost use Rattle.channel_plan.specs.Refusal.{refused};
 ghost use Rattle.channel_view_model.specs.Centre.{Centre};
 ghost use Rattle.station_tables_statements.specs.Rows.{Stands, StandsFor};
 ghost use Rattle.station_tables.specs.Tables.{LeavesSets, MayLeave};
-ghost use Rattle.station_tables.specs.Store.{FindsLeft, HoldsAt, LeavesCentres, LeavesFound, store_state};
+ghost use Rattle.station_tables.specs.Store.{FindsLeft, HoldsAt, LeavesCentres, LeavesFound, store_plan, store_state};
 
 use crate::connected::SqlRows;
 use crate::finding::Version;
@@ -28,7 +28,7 @@ impl<S: Alter> SqlRows<S> {
         ensures ok { IfOk result (λ s. LeavesCentres (state T.Store stopped.now) →
             FindsLeft (state T.Store stopped.now) (state S.Store found) → HasCleanDisk (store_state S.Store s) →
             (version : Version) × (rows : Centre) × HoldsAt version rows (state S.Store found).now.trees
-            × Stands (store_state S.Store s) rows) }
+            × Stands (store_state S.Store s) rows × (rows.channels ≡ store_plan S.Store s)) }
         ensures err { IfErr result (λ e. LeavesCentres (state T.Store stopped.now) →
             FindsLeft (state T.Store stopped.now) (state S.Store found) → HasCleanDisk (state S.Store e.0) →
             e.1 ≡ refused Code.Unavailable) }
@@ -56,7 +56,7 @@ impl<S: Alter> SqlRows<S> {
         ensures ok { IfOk result (λ s. LeavesSets (store_state T.Store stopped.now) →
             FindsLeft (store_state T.Store stopped.now) (state S.Store found) → HasCleanDisk (store_state S.Store s) →
             (rows : Centre) × MayLeave (store_state T.Store stopped.now) rows
-            × Stands (store_state S.Store s) rows) }
+            × Stands (store_state S.Store s) rows × (rows.channels ≡ store_plan S.Store s)) }
         ensures err { IfErr result (λ e. LeavesSets (store_state T.Store stopped.now) →
             FindsLeft (store_state T.Store stopped.now) (state S.Store found) → HasCleanDisk (state S.Store e.0) →
             e.1 ≡ refused Code.Unavailable) }

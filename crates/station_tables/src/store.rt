@@ -2,18 +2,19 @@
 ghost use Rattle.std.specs.Prelude.{◌≡◌, false, IfOk, IfErr};
 ghost use Rattle.sqlite.specs.State.{HasCleanDisk};
 ghost use Rattle.sqlite.specs.Held.{state};
-ghost use Rattle.station_tables_statements.specs.Rows.{StandsFor};
+ghost use Rattle.station_tables_statements.specs.Calls.{HasKnownSchema};
+ghost use Rattle.station_tables_statements.specs.Rows.{channels_in, plan_in_order};
 ghost use Rattle.station_tables.specs.Tables.{LeavesSets, MayLeave};
-ghost use Rattle.station_tables.specs.Store.{store_state};
+ghost use Rattle.station_tables.specs.Store.{StandsWithPlan, store_plan, store_state};
 ghost use Rattle.station_tables.specs.Opens.{Creates, Opens, RefusesToCreate, RefusesToOpen};
 
 use crate::applying::commit_change;
 use crate::connected::SqlRows;
 use crate::finding::Version;
-use crate::founding::create_centre;
+use crate::founding::{create_centre, rows_in_order};
 use crate::loading::{fetch_part, load_view};
 use crate::opening::open_centre;
-use channel_plan::{Code, PlanRow, Refusal, is_plan};
+use channel_plan::{Code, PlanRow, Refusal, is_plan, plan_row};
 use channel_view_model::{Change, Need, Part, RowStore, Table, TableFault, View};
 use sqlite::{Alter, Connection};
 use station_tables_reading::write_table;
@@ -34,6 +35,7 @@ impl<S: Alter> SqlRows<S> {
     ) -> Result<SqlRows<S>, (Connection<S>, Refusal)>
         requires idle { conn.in_transaction ≡ false }
         ensures made { IfOk result (λ s. Creates plan.now (state S.Store conn) (store_state S.Store s)) }
+        ensures plan { IfOk result (λ s. store_plan S.Store s ≡ (plan_in_order plan.now).channels) }
         ensures refused { IfErr result (λ e. RefusesToCreate plan.now (state S.Store conn) (state S.Store e.0) e.1) }
         ensures idle { IfErr result (λ e. e.0.in_transaction ≡ false) }
     {
@@ -41,8 +43,15 @@ impl<S: Alter> SqlRows<S> {
         if !is_plan(plan) {
             return Err((conn, Refusal::of(Code::PlanRow)));
         }
+        let Ok(rows) = rows_in_order(alloc, plan) else {
+            return Err((conn, Refusal::of(Code::Unavailable)));
+        };
         match create_centre(&mut conn, plan) {
-            Ok(()) => Ok(SqlRows { alloc, conn }),
+            Ok(()) => Ok(SqlRows {
+                alloc,
+                conn,
+                plan: rows,
+            }),
             Err(code) => Err((conn, Refusal::of(code))),
         }
     }
@@ -60,12 +69,14 @@ impl<S: Alter> SqlRows<S> {
     ) -> Result<SqlRows<S>, (Connection<S>, Refusal)>
         requires idle { conn.in_transaction ≡ false }
         ensures opened { IfOk result (λ s. Opens (state S.Store conn) (store_state S.Store s)) }
+        ensures plan { IfOk result (λ s. HasKnownSchema (state S.Store conn) → HasCleanDisk (store_state S.Store s) →
+            store_plan S.Store s ≡ channels_in (state S.Store conn).now.trees) }
         ensures refused { IfErr result (λ e. RefusesToOpen (state S.Store conn) (state S.Store e.0) e.1) }
         ensures idle { IfErr result (λ e. e.0.in_transaction ≡ false) }
     {
         let mut conn = conn;
         match open_centre(alloc, &mut conn) {
-            Ok(()) => Ok(SqlRows { alloc, conn }),
+            Ok(plan) => Ok(SqlRows { alloc, conn, plan }),
             Err(code) => Err((conn, Refusal::of(code))),
         }
     }
@@ -75,13 +86,17 @@ impl<S: Alter> SqlRows<S> {
         ensures same { result ≡ self.conn }
         ensures idle { result.in_transaction ≡ false }
     {
-        let SqlRows { alloc: _, conn } = self;
+        let SqlRows {
+            alloc: _,
+            conn,
+            plan: _plan,
+        } = self;
         conn
     }
 }
 
 impl<S: Alter> RowStore for SqlRows<S> {
-    ghost stands_for = { λ s. StandsFor (state S.Store s.conn) };
+    ghost stands_for = { StandsWithPlan S.Store };
 
     ghost is_clean = { λ s. HasCleanDisk (state S.Store s.conn) };
 
@@ -90,11 +105,13 @@ impl<S: Alter> RowStore for SqlRows<S> {
     ghost leaves_sets = { λ s. LeavesSets (state S.Store s.conn) };
 
     fn load(&mut self, channel: u16) -> Result<Option<View>, Unavailable> {
-        load_view(self.alloc, &mut self.conn, channel)
+        let plan = plan_row(&self.plan, channel);
+        load_view(self.alloc, &mut self.conn, channel, plan)
     }
 
     fn fetch(&mut self, channel: u16, need: &Need) -> Result<Option<Part>, Unavailable> {
-        fetch_part(self.alloc, &mut self.conn, channel, need)
+        let plan = plan_row(&self.plan, channel);
+        fetch_part(self.alloc, &mut self.conn, channel, plan, need)
     }
 
     fn write_table<W: Write>(
@@ -103,7 +120,8 @@ impl<S: Alter> RowStore for SqlRows<S> {
         table: Table,
         output: &mut W,
     ) -> Result<bool, TableFault> {
-        write_table(self.alloc, &mut self.conn, channel, table, output)
+        let plan = plan_row(&self.plan, channel);
+        write_table(self.alloc, &mut self.conn, channel, plan, table, output)
     }
 
     fn commit(&mut self, channel: u16, change: &Change) -> Result<(), Unavailable> {

@@ -1,6 +1,6 @@
 //! Just the rows and counts of one channel that a command needs, from the tables.
-ghost use Rattle.std.specs.Prelude.{IfOk};
-ghost use Rattle.channel_view_model.specs.Centre.{view_of};
+ghost use Rattle.std.specs.Prelude.{◌≡◌, IfOk};
+ghost use Rattle.channel_view_model.specs.Centre.{plan_of, view_of};
 ghost use Rattle.channel_view_model.specs.Need.{IsFetched};
 ghost use Rattle.channel_view_model.specs.Rules.{KeepsRules};
 ghost use Rattle.station_tables_records.specs.Inside.{inside, Reads};
@@ -8,27 +8,30 @@ ghost use Rattle.station_tables_statements.specs.Calls.{WhileCleanCentre, OwnsRo
 
 use crate::airing_fetching::find_airing;
 use crate::day_fetching::find_air;
+use crate::open_testing::test_open;
 use crate::own_fetching::{find_clips, find_offers, find_tapes};
+use channel_plan::PlanRow;
 use channel_view_model::{Need, Part};
 use sqlite::{Alter, Transaction};
-use station_tables_statements::load_plan;
 use std::alloc::Global;
 use timecode::Unavailable;
 
-/// The part of what the channel sees that a command needs, or `None` where the channel isn't in the plan. It fails
-/// where memory or the store does, and where a row doesn't read.
+/// The part of what the channel sees that a command needs, by its row of the plan, or `None` where it has none. It
+/// fails where memory or the store does, and where a row doesn't read.
 pub fn read_part<S: Alter>(
     alloc: Global,
     tx: &mut Transaction<'_, S>,
     channel: u16,
+    plan: Option<PlanRow>,
     need: &Need,
 ) -> Result<Option<Part>, Unavailable>
     ensures reads { Reads S.Store tx.old tx.new result }
     ensures part { WhileCleanCentre S.Store tx.old tx.new (OwnsRowsNow (inside S.Store tx.old) →
-        KeepsRules (set_in (inside S.Store tx.old)) →
+        KeepsRules (set_in (inside S.Store tx.old)) → plan_of channel (set_in (inside S.Store tx.old)) ≡ plan →
         IfOk result (IsFetched need.now (view_of channel (set_in (inside S.Store tx.old))))) }
 {
-    let Some(plan) = load_plan(alloc, tx, channel)? else {
+    test_open(tx)?;
+    let Some(plan) = plan else {
         return Ok(None);
     };
     let tapes = find_tapes(alloc, tx, channel, &need.tapes)?;

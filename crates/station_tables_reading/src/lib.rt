@@ -5,6 +5,9 @@
 //!   statement of its own.
 //! - [`write_table`] writes a table of the channel, page by page.
 //!
+//! Each is given the channel's row of the plan, and selects none. Where that is all that is asked for, the store still
+//! has to be open (`test_open`).
+//!
 //! What the database holds stands as a premise of the clauses ([`read_view`]: while the disk is clean, the tables are
 //! those of a centre), since no caller can know it before a call. None changes a row.
 //!
@@ -21,6 +24,7 @@ mod day_loading;
 mod days_writing;
 mod entries;
 mod fetching;
+mod open_testing;
 mod own_fetching;
 mod table_writing;
 mod view_loading;

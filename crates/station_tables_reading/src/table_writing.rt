@@ -4,7 +4,7 @@ ghost use Rattle.std.specs.Io.KnownBytes.{Appends};
 ghost use Rattle.sqlite.specs.State.{HasCleanDisk, Survives};
 ghost use Rattle.sqlite.specs.Held.{state};
 ghost use Rattle.reports.specs.Output.{AppendsPart};
-ghost use Rattle.channel_view_model.specs.Centre.{Centre, view_of};
+ghost use Rattle.channel_view_model.specs.Centre.{Centre, plan_of, view_of};
 ghost use Rattle.channel_view_model.specs.Rules.{KeepsRules};
 ghost use Rattle.channel_view_model.specs.TableText.{table_text, text_at};
 ghost use Rattle.station_tables_records.specs.Inside.{inside, Looks, Reads};
@@ -13,10 +13,11 @@ ghost use Rattle.station_tables_statements.specs.Calls.{WhileCleanCentre, set_in
 ghost use Rattle.station_tables_reading.specs.Lines.{WhileCleanSeen, Written, joined, lines_of, shelved_of};
 
 use crate::entries::{count_paged, write_end, write_page};
+use crate::open_testing::test_open;
 use channel_plan::PlanRow;
 use channel_view_model::{Table, TableFault};
 use sqlite::{Alter, Connection, Transaction};
-use station_tables_statements::{PAGE, load_plan};
+use station_tables_statements::PAGE;
 use std::alloc::Global;
 use std::io::Write;
 
@@ -76,22 +77,23 @@ fn write_own<S: Alter, W: Write>(
     )
 }
 
-// Writes it where the channel is in the plan, and says whether it is.
+// Writes it where the channel has a row of the plan, and says whether it has.
 fn write_seen<S: Alter, W: Write>(
     alloc: Global,
     tx: &mut Transaction<'_, S>,
     channel: u16,
+    plan: Option<PlanRow>,
     table: Table,
     output: &mut W,
 ) -> Result<bool, TableFault>
     ensures reads { Reads S.Store tx.old tx.new result }
-    ensures there { WhileCleanCentre S.Store tx.old tx.new
-        (IfOk result (λ there. there ≡ is_some (view_of channel (set_in (inside S.Store tx.old))))) }
-    ensures ok { WhileCleanCentre S.Store tx.old tx.new (
+    ensures there { WhileCleanCentre S.Store tx.old tx.new (plan_of channel (set_in (inside S.Store tx.old)) ≡ plan →
+        IfOk result (λ there. there ≡ is_some (view_of channel (set_in (inside S.Store tx.old))))) }
+    ensures ok { WhileCleanCentre S.Store tx.old tx.new (plan_of channel (set_in (inside S.Store tx.old)) ≡ plan →
         HoldsSet (set_in (inside S.Store tx.old)) (inside S.Store tx.old).now →
         OnOk result (Appends (W.contents output.old) (W.contents output.new)
         (text_at table (view_of channel (set_in (inside S.Store tx.old)))))) }
-    ensures err { WhileCleanCentre S.Store tx.old tx.new (
+    ensures err { WhileCleanCentre S.Store tx.old tx.new (plan_of channel (set_in (inside S.Store tx.old)) ≡ plan →
         HoldsSet (set_in (inside S.Store tx.old)) (inside S.Store tx.old).now →
         OnErr result (AppendsPart (W.contents output.old) (W.contents output.new)
         (text_at table (view_of channel (set_in (inside S.Store tx.old)))))) }
@@ -99,30 +101,34 @@ fn write_seen<S: Alter, W: Write>(
     ensures shut { HasCleanDisk (inside S.Store tx.new) → (inside S.Store tx.old).is_open ≡ false →
         OnErr result (Appends (W.contents output.old) (W.contents output.new) []) }
 {
-    let Some(plan) = load_plan(alloc, tx, channel)? else {
+    test_open(tx)?;
+    let Some(plan) = plan else {
         return Ok(false);
     };
     write_own(alloc, tx, channel, &plan, table, output)?;
     Ok(true)
 }
 
-/// Writes a table of the channel, in one transaction, and says whether the channel is in the plan: where it isn't,
-/// nothing is written. Of a call that fails, what was written is a beginning of the table. Rows that don't read are
-/// refused.
+/// Writes a table of the channel, by its row of the plan, in one transaction, and says whether it has one: where it
+/// hasn't, nothing is written. Of a call that fails, what was written is a beginning of the table. Rows that don't read
+/// are refused.
 pub fn write_table<S: Alter, W: Write>(
     alloc: Global,
     conn: &mut Connection<S>,
     channel: u16,
+    plan: Option<PlanRow>,
     table: Table,
     output: &mut W,
 ) -> Result<bool, TableFault>
     requires idle { conn.old.in_transaction ≡ false }
     ensures idle { conn.new.in_transaction ≡ false }
     ensures there { HasCleanDisk (state S.Store conn.new) → (rows : Centre) → StandsFor (state S.Store conn.old) rows →
-        IfOk result (λ there. there ≡ is_some (view_of channel rows)) }
+        plan_of channel rows ≡ plan → IfOk result (λ there. there ≡ is_some (view_of channel rows)) }
     ensures ok { HasCleanDisk (state S.Store conn.new) → (rows : Centre) → StandsFor (state S.Store conn.old) rows →
+        plan_of channel rows ≡ plan →
         OnOk result (Appends (W.contents output.old) (W.contents output.new) (text_at table (view_of channel rows))) }
     ensures err { HasCleanDisk (state S.Store conn.new) → (rows : Centre) → StandsFor (state S.Store conn.old) rows →
+        plan_of channel rows ≡ plan →
         OnErr result (AppendsPart (W.contents output.old) (W.contents output.new)
         (text_at table (view_of channel rows))) }
     ensures rules { HasCleanDisk (state S.Store conn.new) → (rows : Centre) → StandsFor (state S.Store conn.old) rows →
@@ -132,5 +138,5 @@ pub fn write_table<S: Alter, W: Write>(
     ensures survives { Survives (state S.Store conn.old) (state S.Store conn.new) (λ _. ⊥) }
 {
     let mut tx = conn.transaction();
-    write_seen(alloc, &mut tx, channel, table, output)
+    write_seen(alloc, &mut tx, channel, plan, table, output)
 }

@@ -10,12 +10,13 @@ ghost use Rattle.station_tables_statements.specs.Calls.{WhileCleanCentre, set_in
 
 use crate::airing_loading::load_airings;
 use crate::day_loading::load_days;
+use crate::open_testing::test_open;
 use channel_plan::{LAST_DAY, PlanRow};
 use channel_view_model::{Airings, Days, View, airings_alone, days_alone};
 use channel_view_rules::keeps_view_rules;
 use grant_core::LentRows;
 use sqlite::{Alter, Transaction};
-use station_tables_statements::{load_lent, load_plan, load_rows};
+use station_tables_statements::{load_lent, load_rows};
 use std::alloc::Global;
 use timecode::Unavailable;
 use vault_core::OwnRows;
@@ -98,19 +99,22 @@ fn read_lent<S: Alter>(
     }
 }
 
-/// What the channel sees, or `None` where it isn't in the plan. It fails where memory or the store does, where a
-/// row doesn't read, and where the channel's rows break a rule.
+/// What the channel sees, by its row of the plan, or `None` where it has none. It fails where memory or the store does,
+/// where a row doesn't read, and where the channel's rows break a rule.
 pub fn read_view<S: Alter>(
     alloc: Global,
     tx: &mut Transaction<'_, S>,
     channel: u16,
+    plan: Option<PlanRow>,
 ) -> Result<Option<View>, Unavailable>
     ensures reads { Reads S.Store tx.old tx.new result }
     ensures view { WhileCleanCentre S.Store tx.old tx.new (KeepsRules (set_in (inside S.Store tx.old)) →
+        plan_of channel (set_in (inside S.Store tx.old)) ≡ plan →
         IfOk result (λ view. view ≡ view_of channel (set_in (inside S.Store tx.old)))) }
     ensures shows { IfOk result (λ view. IfSome view KeepsViewRules) }
 {
-    let Some(plan) = load_plan(alloc, tx, channel)? else {
+    test_open(tx)?;
+    let Some(plan) = plan else {
         return Ok(None);
     };
     let own = read_own(alloc, tx, plan)?;

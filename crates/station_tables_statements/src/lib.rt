@@ -50,5 +50,5 @@ pub use items::{delete_item, insert_item, load_item_rows};
 pub use numbered::{NumberedRow, PAGE, Question, count_rows, load_page, load_rows, row_numbered};
 pub use offers::{insert_offer, load_lent, open_offer, withdraw_offer};
 pub use office::{RAISE_VERSION, insert_office, office_rows};
-pub use plan::{insert_channel, load_plan};
+pub use plan::insert_channel;
 pub use tapes::{change_tape, insert_tape, tape_in, tape_with};

@@ -1,22 +1,20 @@
 //! The rows of the channels of the plan: what is asked of them and written, each by a text of its own, inside a
 //! transaction.
-ghost use Rattle.std.specs.Prelude.{◌≡◌, [], IfOk};
+ghost use Rattle.std.specs.Prelude.{◌≡◌};
 ghost use Rattle.sqlite_keyed.specs.Lists.{insert_sorted};
 ghost use Rattle.sqlite.specs.Values.{bound};
-ghost use Rattle.channel_view_model.specs.Centre.{plan_of};
-ghost use Rattle.station_tables_records.specs.Inside.{inside, Reads, Writes};
+ghost use Rattle.station_tables_records.specs.Inside.{inside, Writes};
 ghost use Rattle.station_tables_records.specs.ChannelRows.{channel_row, channel_cmp};
 ghost use Rattle.station_tables_statements.specs.Rows.{on_channels};
-ghost use Rattle.station_tables_statements.specs.Calls.{WhileCleanCentre, Makes, LacksChannelNow, LacksDaysNow, set_in};
+ghost use Rattle.station_tables_statements.specs.Calls.{Makes, LacksChannelNow, LacksDaysNow};
 
-use crate::asking::{StoredTable, find_rows};
+use crate::asking::StoredTable;
 use crate::columns::table_text;
 use channel_plan::PlanRow;
 use sqlite::types::ValueRef;
 use sqlite::{Alter, Error, Transaction};
-use station_tables_records::{ask, long_number, of_channel, short_number};
+use station_tables_records::{ask, long_number, short_number};
 use std::alloc::Global;
-use timecode::Unavailable;
 
 // The texts that name the columns of `channel`.
 macro_rules! channel_text {
@@ -45,26 +43,6 @@ impl StoredTable for PlanRow {
     ) -> Result<Option<Vec<PlanRow>>, Error> {
         ask(alloc, tx, channel_text!(SELECT "ORDER BY ch"), &[])
     }
-}
-
-/// The channel's row of the plan, or `None` where it isn't in it. It fails where memory or the store does, and
-/// where a row doesn't read.
-pub fn load_plan<S: Alter>(
-    alloc: Global,
-    tx: &mut Transaction<'_, S>,
-    channel: u16,
-) -> Result<Option<PlanRow>, Unavailable>
-    ensures reads { Reads S.Store tx.old tx.new result }
-    ensures plan { WhileCleanCentre S.Store tx.old tx.new
-        (IfOk result (λ plan. plan ≡ plan_of channel (set_in (inside S.Store tx.old)))) }
-{
-    let channels = find_rows(
-        alloc,
-        tx,
-        channel_text!(SELECT "WHERE ch = ?1 ORDER BY ch"),
-        &of_channel(channel),
-    )?;
-    Ok(channels.first().copied())
 }
 
 /// Adds a channel of the plan, whose number is new, while no channel has a day and nothing was aired. It answers as

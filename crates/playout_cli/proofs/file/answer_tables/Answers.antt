@@ -3,6 +3,7 @@ use Rattle.std.proofs.Common.{◌∙◌, ap, sym, subst}
 use Rattle.sqlite.specs.State.{HasCleanDisk}
 use Rattle.sqlite.specs.Held.{state}
 use Rattle.station_tables_statements.specs.Rows.{StandsFor}
+use Rattle.station_tables.specs.Store.{StandsWithPlan}
 use Rattle.station_tables.specs.Tables.{MayLeave}
 use Rattle.channel_view.proofs.KnownLemmas.{nothing_known}
 use Rattle.playout_cli.proofs.ServingLemmas.{serves_on}
@@ -17,11 +18,11 @@ returns-in-Ok-done-clause-ok g c =
       serves_on _ _ _ _ _ _ _ _ _ _ _ _ _ _
           (λ rows begins. subst (λ conn. HasCleanDisk (state g.S.Store conn)) same begins.0)
           (λ rows clean begins. (
-            subst (λ s. StandsFor (state g.S.Store s.conn) rows) (sym over)
+            subst (λ s. StandsWithPlan g.S.Store s rows) (sym over)
                 (c.in-Ok.ensures.rows (subst (λ s. HasCleanDisk (state g.S.Store s.conn)) over clean) rows begins.1),
             nothing_known rows _ c.over-store.ensures.none,
           ))
-          (λ rows left begins stands. subst (λ conn. StandsFor (state g.S.Store conn) left) (sym same) stands.0)
+          (λ rows left begins stands. subst (λ conn. StandsFor (state g.S.Store conn) left) (sym same) stands.0.0)
           (λ rows found clean begins left. c.in-Ok.ensures.alone
           (subst (λ s. HasCleanDisk (state g.S.Store s.conn)) over clean) rows begins.1 found
           (subst (λ s. MayLeave (state g.S.Store s.conn) found) over left))
@@ -39,11 +40,11 @@ returns-in-Err-done-clause-err g c =
       serves_on _ _ _ _ _ _ _ _ _ _ _ _ _ _
           (λ rows begins. subst (λ conn. HasCleanDisk (state g.S.Store conn)) same begins.0)
           (λ rows clean begins. (
-            subst (λ s. StandsFor (state g.S.Store s.conn) rows) (sym over)
+            subst (λ s. StandsWithPlan g.S.Store s rows) (sym over)
                 (c.in-Ok.ensures.rows (subst (λ s. HasCleanDisk (state g.S.Store s.conn)) over clean) rows begins.1),
             nothing_known rows _ c.over-store.ensures.none,
           ))
-          (λ rows left begins stands. subst (λ conn. StandsFor (state g.S.Store conn) left) (sym same) stands.0)
+          (λ rows left begins stands. subst (λ conn. StandsFor (state g.S.Store conn) left) (sym same) stands.0.0)
           (λ rows found clean begins left. c.in-Ok.ensures.alone
           (subst (λ s. HasCleanDisk (state g.S.Store s.conn)) over clean) rows begins.1 found
           (subst (λ s. MayLeave (state g.S.Store s.conn) found) over left))

@@ -2,28 +2,32 @@
 use Rattle.std.proofs.Common.{sym, ◌∙◌}
 use Rattle.std.proofs.lemmas.Result.{IfOk-weaker, IfErr-weaker}
 use Rattle.sqlite.specs.Held.{state}
-use Rattle.playout_cli.proofs.KeptLemmas.{begins_found, begins_bare, stands_always, nothing_committed}
+use Rattle.station_tables.proofs.FindLemmas.{known_of}
+use Rattle.station_tables.proofs.KeptLemmas.{ok_both}
+use Rattle.playout_cli.proofs.KeptLemmas.{begins_found, begins_bare, stands_with_plan, nothing_committed}
 use Rattle.playout_cli.proofs.ServingLemmas.{opened_refused, made_refused}
 use Rattle.playout_cli.proofs.file.store_in.Goals as goal
 
 pub returns-then-is_empty-clause-rows : goal.returns-then-is_empty-clause-rows
-returns-then-is_empty-clause-rows g c = IfOk-weaker c.open_tables.result _ _ (λ s opens clean rows begins.
+returns-then-is_empty-clause-rows g c = ok_both c.open_tables.result (λ s opens kept clean rows begins.
     let found =
     begins_found c.args.plan.now (state g.S.Store c.args.conn) rows (sym c.is_empty.ensures ∙ c.if-is_empty.true)
     begins in
-    stands_always (state g.S.Store s.conn) _ rows (opens.rows found.0 found.1 clean) found.2)
-    c.open_tables.ensures.opened
+    stands_with_plan g.S.Store s _ rows (opens.rows found.0 found.1 clean)
+    (kept (known_of found.0 (state g.S.Store c.args.conn) found.1) clean) found.2)
+    c.open_tables.ensures.opened c.open_tables.ensures.plan
 
 pub returns-then-is_empty-clause-kept : goal.returns-then-is_empty-clause-kept
 returns-then-is_empty-clause-kept g c =
     IfErr-weaker c.open_tables.result _ _ (λ e refuses clean. refuses.before clean) c.open_tables.ensures.refused
 
 pub returns-else-is_empty-clause-rows : goal.returns-else-is_empty-clause-rows
-returns-else-is_empty-clause-rows g c = IfOk-weaker c.create.result _ _ (λ s creates clean rows begins.
+returns-else-is_empty-clause-rows g c = ok_both c.create.result (λ s creates kept clean rows begins.
     let made =
     begins_bare c.args.plan.now (state g.S.Store c.args.conn) rows (sym c.is_empty.ensures ∙ c.if-is_empty.false)
     begins in
-    stands_always (state g.S.Store s.conn) _ rows (creates.rows made.0 clean) made.1) c.create.ensures.made
+    stands_with_plan g.S.Store s _ rows (creates.rows made.0 clean) kept made.1) c.create.ensures.made
+    c.create.ensures.plan
 
 pub returns-else-is_empty-clause-kept : goal.returns-else-is_empty-clause-kept
 returns-else-is_empty-clause-kept g c =

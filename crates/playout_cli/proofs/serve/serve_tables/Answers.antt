@@ -4,9 +4,11 @@ use Rattle.std.proofs.lemmas.Result.{IfOk-weaker}
 use Rattle.sqlite.specs.State.{HasCleanDisk}
 use Rattle.sqlite.specs.Held.{state}
 use Rattle.station_tables_statements.specs.Rows.{StandsFor}
+use Rattle.station_tables.proofs.FindLemmas.{known_of}
+use Rattle.station_tables.specs.Store.{StandsWithPlan}
 use Rattle.station_tables.specs.Tables.{MayLeave}
 use Rattle.channel_view.proofs.KnownLemmas.{nothing_known}
-use Rattle.playout_cli.proofs.KeptLemmas.{stands_always}
+use Rattle.playout_cli.proofs.KeptLemmas.{stands_always, stands_with_plan}
 use Rattle.playout_cli.proofs.ServingLemmas.{err_where_on, serves_over, port_over}
 use Rattle.playout_cli.proofs.serve.serve_tables.Goals as goal
 
@@ -17,13 +19,13 @@ returns-in-Ok-clause-ok g c =
     IfOk-weaker c.serve_port-served.result _ _ (λ quiet. serves_over _ _ _ _ _ _ _ _ _ _ _ _ quiet
     (λ rows begins. subst (λ conn. HasCleanDisk (state g.S.Store conn)) same begins.0)
     (λ rows clean begins. (
-      subst (λ s. StandsFor (state g.S.Store s.conn) rows) (sym over)
-          (stands_always (state g.S.Store c.in-Ok.opened.conn) _ rows
-          (c.in-Ok.ensures.opened.rows begins.1.0 begins.1.1
-          (subst (λ s. HasCleanDisk (state g.S.Store s.conn)) over clean)) begins.1.2),
+      let now = subst (λ s. HasCleanDisk (state g.S.Store s.conn)) over clean in
+          subst (λ s. StandsWithPlan g.S.Store s rows) (sym over)
+          (stands_with_plan g.S.Store c.in-Ok.opened _ rows (c.in-Ok.ensures.opened.rows begins.1.0 begins.1.1 now)
+          (c.in-Ok.ensures.plan (known_of begins.1.0 (state g.S.Store c.args.conn) begins.1.1) now) begins.1.2),
       nothing_known rows _ c.over-store.ensures.none,
     ))
-    (λ left stands. subst (λ conn. StandsFor (state g.S.Store conn) left) (sym same) stands.0)
+    (λ left stands. subst (λ conn. StandsFor (state g.S.Store conn) left) (sym same) stands.0.0)
     (λ rows found clean begins left. c.in-Ok.ensures.opened.alone begins.1.0 begins.1.1
     (subst (λ s. HasCleanDisk (state g.S.Store s.conn)) over clean) found
     (subst (λ s. MayLeave (state g.S.Store s.conn) found) over left) ∙ sym begins.1.2)

@@ -8,7 +8,8 @@ use Rattle.playout_actions.specs.Tables.{PrintsTable, TableHas, IsTableFault}
 use Rattle.station_tables_statements.specs.Rows.{StandsFor}
 use Rattle.playout_cli.specs.Kept.{BeginsWith}
 use Rattle.station_tables.specs.Opens.{RefusesToOpen}
-use Rattle.playout_cli.proofs.KeptLemmas.{stands_always}
+use Rattle.station_tables.proofs.FindLemmas.{known_of}
+use Rattle.playout_cli.proofs.KeptLemmas.{stands_with_plan}
 use Rattle.playout_cli.proofs.ServingLemmas.{ok_where, err_where, table_has}
 use Rattle.playout_cli.proofs.table.print_stored_table.Goals as goal
 
@@ -19,8 +20,8 @@ returns-in-Ok-clause-ok g c = ok_where (BeginsWith [] (state g.S.Store c.args.co
     let done = c.print_table-done.ensures in
     let now = subst (λ conn. HasCleanDisk (state g.S.Store conn)) c.into_connection.ensures.same clean in
     done.ok now rows
-    (stands_always (state g.S.Store c.in-Ok.store.conn) _ rows
-    (c.in-Ok.ensures.opened.rows begins.0 begins.1 (done.clean now)) begins.2))
+    (stands_with_plan g.S.Store c.in-Ok.store _ rows (c.in-Ok.ensures.opened.rows begins.0 begins.1 (done.clean now))
+    (c.in-Ok.ensures.plan (known_of begins.0 (state g.S.Store c.args.conn) begins.1) (done.clean now)) begins.2))
 
 pub returns-in-Ok-clause-err : goal.returns-in-Ok-clause-err
 returns-in-Ok-clause-err g c = err_where (BeginsWith [] (state g.S.Store c.args.conn))
@@ -29,8 +30,8 @@ returns-in-Ok-clause-err g c = err_where (BeginsWith [] (state g.S.Store c.args.
     let done = c.print_table-done.ensures in
     let now = subst (λ conn. HasCleanDisk (state g.S.Store conn)) c.into_connection.ensures.same clean in
     done.err now rows
-    (stands_always (state g.S.Store c.in-Ok.store.conn) _ rows
-    (c.in-Ok.ensures.opened.rows begins.0 begins.1 (done.clean now)) begins.2))
+    (stands_with_plan g.S.Store c.in-Ok.store _ rows (c.in-Ok.ensures.opened.rows begins.0 begins.1 (done.clean now))
+    (c.in-Ok.ensures.plan (known_of begins.0 (state g.S.Store c.args.conn) begins.1) (done.clean now)) begins.2))
 
 pub returns-in-Ok-clause-faults : goal.returns-in-Ok-clause-faults
 returns-in-Ok-clause-faults g c = IfErr-weaker c.print_table-done.result _ _ table_has c.print_table-done.ensures.faults
@@ -42,8 +43,8 @@ returns-in-Ok-clause-same g c clean rows begins =
     let now = subst (λ conn. HasCleanDisk (state g.S.Store conn)) same clean in
     inl (subst (λ conn. StandsFor (state g.S.Store conn) rows) (sym same)
     (done.same now rows
-    (stands_always (state g.S.Store c.in-Ok.store.conn) _ rows
-    (c.in-Ok.ensures.opened.rows begins.0 begins.1 (done.clean now)) begins.2)))
+    (stands_with_plan g.S.Store c.in-Ok.store _ rows (c.in-Ok.ensures.opened.rows begins.0 begins.1 (done.clean now))
+    (c.in-Ok.ensures.plan (known_of begins.0 (state g.S.Store c.args.conn) begins.1) (done.clean now)) begins.2)).0)
 
 pub returns-in-Ok-clause-refused : goal.returns-in-Ok-clause-refused
 returns-in-Ok-clause-refused g c refusal same =

@@ -8,27 +8,27 @@ use Rattle.station_tables.specs.Opening.{IsCentreOf, CommitsShown}
 use Rattle.station_tables.proofs.FindLemmas.{handed_on}
 use Rattle.station_tables.proofs.finding.find_centre.Goals as goal
 
-pub returns-in_err-version-clause-refused : goal.returns-in_err-version-clause-refused
-returns-in_err-version-clause-refused g c =
+pub returns-in_err-found-clause-refused : goal.returns-in_err-found-clause-refused
+returns-in_err-found-clause-refused g c =
     let old = state g.S.Store c.args.conn.now in
     let new = state g.S.Store c.drop-tx.new.self.0 in
-    handed_on _ c.in_err-version.field-0.0 c.from_residual.result c.from_residual.ensures.1 (record {
-      codes = c.in_err-version.ensures.codes;
+    handed_on _ c.in_err-found.field-0.0 c.from_residual.result c.from_residual.ensures.1 (record {
+      codes = c.in_err-found.ensures.codes;
       version = λ is ours clean.
           let dropped : HasCleanDisk (state g.S.Store c.drop-tx.new.self.0) = search (rules, clean) in
           let before : HasCleanDisk (inside g.S.Store c.test_tables.new.tx) =
           omega (arith, dropped, c.drop-tx.ensures.survives.clean) in
-          (rw c.transaction-tx.ensures.begun at c.in_err-version.ensures.version) ours before is;
+          (rw c.transaction-tx.ensures.begun at c.in_err-found.ensures.version) ours before is;
       ours = λ is clean.
           let dropped : HasCleanDisk (state g.S.Store c.drop-tx.new.self.0) = search (rules, clean) in
           let before : HasCleanDisk (inside g.S.Store c.test_tables.new.tx) =
           omega (arith, dropped, c.drop-tx.ensures.survives.clean) in
-          (rw c.transaction-tx.ensures.begun at c.in_err-version.ensures.ours) before is;
+          (rw c.transaction-tx.ensures.begun at c.in_err-found.ensures.ours) before is;
       known = λ is ours clean.
           let dropped : HasCleanDisk (state g.S.Store c.drop-tx.new.self.0) = search (rules, clean) in
           let before : HasCleanDisk (inside g.S.Store c.test_tables.new.tx) =
           omega (arith, dropped, c.drop-tx.ensures.survives.clean) in
-          (rw c.transaction-tx.ensures.begun at c.in_err-version.ensures.known) ours before is;
+          (rw c.transaction-tx.ensures.begun at c.in_err-found.ensures.known) ours before is;
       kept = λ clean. search (rules, clean);
     })
 
@@ -37,18 +37,18 @@ returns-in-Ok-clause-found g c =
     let old = state g.S.Store c.args.conn.now in
     let mid = inside g.S.Store c.test_tables.new.tx in
     let last = state g.S.Store c.commit.new.self.0 in
-    let v = c.in_ok-version.version in
+    let v = c.in_ok-found.found.version in
     record {
       rows = λ clean has.
           let done : HasCleanDisk last = search (rules, clean) in
           let early : HasCleanDisk mid = omega (arith, done, c.commit.ensures.survives.clean) in
           let tested : IsCentreOf v old.now =
-          (rw c.transaction-tx.ensures.begun at c.in_ok-version.ensures.rows) early has in
+          (rw c.transaction-tx.ensures.begun at c.in_ok-found.ensures.rows) early has in
           search (rules, tested);
       same = λ clean.
           let done : HasCleanDisk last = search (rules, clean) in
           let early : HasCleanDisk mid = omega (arith, done, c.commit.ensures.survives.clean) in
-          let same = (rw c.transaction-tx.ensures.begun at c.in_ok-version.ensures.reads.same) early in
+          let same = (rw c.transaction-tx.ensures.begun at c.in_ok-found.ensures.reads.same) early in
           let shown = (c.in-Ok.ensures.ok done).1 in
           let all : CommitsShown old last =
           record {
@@ -61,13 +61,20 @@ returns-in-Ok-clause-found g c =
       office = λ known clean.
           let done : HasCleanDisk last = search (rules, clean) in
           let early : HasCleanDisk mid = omega (arith, done, c.commit.ensures.survives.clean) in
-          (rw c.transaction-tx.ensures.begun at c.in_ok-version.ensures.office) known early;
+          (rw c.transaction-tx.ensures.begun at c.in_ok-found.ensures.office) known early;
       missing = λ first clean.
           let done : HasCleanDisk last = search (rules, clean) in
           let early : HasCleanDisk mid = omega (arith, done, c.commit.ensures.survives.clean) in
-          (rw c.transaction-tx.ensures.begun at c.in_ok-version.ensures.missing) first early;
+          (rw c.transaction-tx.ensures.begun at c.in_ok-found.ensures.missing) first early;
       alone = λ clean. search (rules, clean);
     }
+
+pub returns-in-Ok-clause-plan : goal.returns-in-Ok-clause-plan
+returns-in-Ok-clause-plan g c known clean =
+    let done : HasCleanDisk (state g.S.Store c.commit.new.self.0) = search (rules, clean) in
+    let early : HasCleanDisk (inside g.S.Store c.test_tables.new.tx) =
+    omega (arith, done, c.commit.ensures.survives.clean) in
+    (rw c.transaction-tx.ensures.begun at c.in_ok-found.ensures.plan) known early
 
 pub returns-in-Err-clause-refused : goal.returns-in-Err-clause-refused
 returns-in-Err-clause-refused g c = record {

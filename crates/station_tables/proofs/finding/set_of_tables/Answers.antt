@@ -181,3 +181,15 @@ returns-clause-missing g c first clean =
     let b1 = back g.S.Store v _ _ _ c.in_ok-tapes.ensures.reads b2.clean in
     let b0 = back g.S.Store v _ _ _ c.in_ok-channels.ensures.reads b1.clean in
     c.in_ok-offers.ensures.missing (b2.first (b1.first (b0.first first))) after
+
+pub returns-clause-plan : goal.returns-clause-plan
+returns-clause-plan g c known clean =
+    let v = c.args.version in
+    let before : HasCleanDisk (inside g.S.Store c.all_made_days.new.tx) =
+    omega (arith, clean, c.all_made_airings.ensures.reads.survives.clean) in
+    let b4 = back g.S.Store v _ _ _ c.in_ok-days.ensures.reads before in
+    let b3 = back g.S.Store v _ _ _ c.in_ok-offers.ensures.reads b4.clean in
+    let b2 = back g.S.Store v _ _ _ c.in_ok-clips.ensures.reads b3.clean in
+    let b1 = back g.S.Store v _ _ _ c.in_ok-tapes.ensures.reads b2.clean in
+    let channels = c.in_ok-channels.ensures.list known b1.clean in
+    sym channels.are

@@ -1,9 +1,9 @@
 -- `fetch_part`: the part of what the channel sees that a command needs, or `None` where it isn't in the plan.
-use Rattle.std.proofs.Common.{sym, subst, arith, rules}
+use Rattle.std.proofs.Common.{sym, ap, ◌∙◌, subst, arith, rules}
 use Rattle.sqlite.specs.State.{HasCleanDisk}
 use Rattle.sqlite.specs.Held.{state}
 use Rattle.std.specs.Prelude.{IfOk}
-use Rattle.channel_view_model.specs.Centre.{Centre, view_of}
+use Rattle.channel_view_model.specs.Centre.{Centre, plan_of, view_of}
 use Rattle.channel_view_model.specs.Need.{IsFetched}
 use Rattle.channel_view_model.specs.Rules.{KeepsRules}
 use Rattle.station_tables_records.specs.Inside.{inside}
@@ -14,7 +14,7 @@ use Rattle.station_tables_reading.proofs.SeenLemmas.{rules_kept}
 use Rattle.station_tables.proofs.loading.fetch_part.Goals as goal
 
 pub returns-clause-part : goal.returns-clause-part
-returns-clause-part g c clean set stands =
+returns-clause-part g c clean set stands known =
     let old = state g.S.Store c.args.conn.now in
     let ch = c.args.channel in
     let dropped : HasCleanDisk (state g.S.Store c.drop-tx.new.self.0) = search (rules, clean) in
@@ -28,7 +28,8 @@ returns-clause-part g c clean set stands =
     let s = stands early same.0.was_open in
     subst (λ (all : Centre). IfOk c.read_part.result (IsFetched c.args.need.now (view_of ch all))) s.holds.rows_are
     ((rw c.transaction-tx.ensures.begun at c.read_part.ensures.part) (keeps_centre old set stands) before
-    (λ first opened. (stands first opened).holds.owned) (subst KeepsRules (sym s.holds.rows_are) s.holds.rules)))
+    (λ first opened. (stands first opened).holds.owned) (subst KeepsRules (sym s.holds.rows_are) s.holds.rules)
+    (ap (plan_of ch) s.holds.rows_are ∙ known)))
 
 -- a part is given of rows that keep the rules alone
 pub returns-clause-rules : goal.returns-clause-rules

@@ -29,16 +29,16 @@ own_rows ch table = picked_is (λ r. r.0 == ch) (λ r. r.1) table
 
 pub returns-in_default-clause-part : goal.returns-in_default-clause-part
 unfolding view_of
-returns-in_default-clause-part g c centre clean owned rules =
+returns-in_default-clause-part g c centre clean owned rules known =
     let rows = set_in (inside g.S.Store c.args.tx.now) in
-    let absent : None ≡ plan_of c.args.channel rows = sym c.in_default.is ∙ c.in_ok-plan.ensures.plan centre clean in
+    let absent : None ≡ plan_of c.args.channel rows = sym (known ∙ c.in_default.is) in
     subst (λ (o : Option PlanRow). IsFetched c.args.need.now (option_map (view_at c.args.channel rows) o) None) absent
     tt
 
 pub returns-clause-reads : goal.returns-clause-reads
 returns-clause-reads g c =
     reads_on g.S.Store _ _ _ _
-    (look_after g.S.Store _ _ _ _ _ c.in_ok-plan.ensures.reads
+    (look_after g.S.Store _ _ _ _ _ c.in_ok-test_open.ensures.reads
     (looks_then g.S.Store _ _ _ _ _ c.in_ok-tapes.ensures.looks
     (looks_then g.S.Store _ _ _ _ _ c.in_ok-clips.ensures.looks
     (looks_then g.S.Store _ _ _ _ _ c.in_ok-offers.ensures.looks
@@ -46,7 +46,7 @@ returns-clause-reads g c =
 
 pub returns-clause-part : goal.returns-clause-part
 unfolding view_of
-returns-clause-part g c centre clean owned rules =
+returns-clause-part g c centre clean owned rules known =
     let s = g.S.Store in
     let old = inside s c.args.tx.now in
     let ch = c.args.channel in
@@ -57,19 +57,18 @@ returns-clause-part g c centre clean owned rules =
     let clean_offered = was_clean s _ _ _ c.in_ok-air.ensures.looks clean_shown in
     let clean_clipped = was_clean s _ _ _ c.in_ok-offers.ensures.looks clean_offered in
     let clean_taped = was_clean s _ _ _ c.in_ok-clips.ensures.looks clean_clipped in
-    let clean_planned = was_clean s _ _ _ c.in_ok-tapes.ensures.looks clean_taped in
-    let planned = read_is_look s _ _ _ c.in_ok-plan.ensures.reads in
-    let taped = looks_then s _ _ _ _ _ planned c.in_ok-tapes.ensures.looks in
+    let opened = read_is_look s _ _ _ c.in_ok-test_open.ensures.reads in
+    let taped = looks_then s _ _ _ _ _ opened c.in_ok-tapes.ensures.looks in
     let clipped = looks_then s _ _ _ _ _ taped c.in_ok-clips.ensures.looks in
     let offered = looks_then s _ _ _ _ _ clipped c.in_ok-offers.ensures.looks in
     let shown = looks_then s _ _ _ _ _ offered c.in_ok-air.ensures.looks in
-    let there : Some plan ≡ plan_of ch rows = sym c.in-Some.is ∙ c.in_ok-plan.ensures.plan centre clean_planned in
+    let there : Some plan ≡ plan_of ch rows = sym (known ∙ c.in-Some.is) in
     let own = rules.own ch plan (sym there) in
     let mine : plan.ch ≡ ch = found_channel ch rows.channels plan (sym there) in
     let planned_is : plan_of plan.ch rows ≡ Some plan =
     subst (λ k. plan_of k rows ≡ Some plan) (sym mine) (sym there) in
     let tapes =
-    set_before s _ _ _ _ _ planned c.in_ok-tapes.ensures.looks
+    set_before s _ _ _ _ _ opened c.in_ok-tapes.ensures.looks
     (λ set. AreNumbered (λ (t : Tape). t.n) ch set.tapes
     → AreTapeAnswers need.tapes (of_channel ch set.tapes) c.in_ok-tapes.tapes) c.in_ok-tapes.ensures.found centre
     clean_taped own.numbers in
@@ -135,7 +134,7 @@ returns-clause-part g c centre clean owned rules =
 pub returns-in_err-air-clause-reads : goal.returns-in_err-air-clause-reads
 returns-in_err-air-clause-reads g c =
     reads_failed g.S.Store _ _ _ _ c.from_residual-in_err-air.ensures.0
-    (look_after g.S.Store _ _ _ _ _ c.in_ok-plan.ensures.reads
+    (look_after g.S.Store _ _ _ _ _ c.in_ok-test_open.ensures.reads
     (looks_then g.S.Store _ _ _ _ _ c.in_ok-tapes.ensures.looks
     (looks_then g.S.Store _ _ _ _ _ c.in_ok-clips.ensures.looks
     (looks_then g.S.Store _ _ _ _ _ c.in_ok-offers.ensures.looks c.find_air.ensures.looks))))
@@ -143,7 +142,7 @@ returns-in_err-air-clause-reads g c =
 pub returns-in_err-aired-clause-reads : goal.returns-in_err-aired-clause-reads
 returns-in_err-aired-clause-reads g c =
     reads_failed g.S.Store _ _ _ _ c.from_residual-in_err-aired.ensures.0
-    (look_after g.S.Store _ _ _ _ _ c.in_ok-plan.ensures.reads
+    (look_after g.S.Store _ _ _ _ _ c.in_ok-test_open.ensures.reads
     (looks_then g.S.Store _ _ _ _ _ c.in_ok-tapes.ensures.looks
     (looks_then g.S.Store _ _ _ _ _ c.in_ok-clips.ensures.looks
     (looks_then g.S.Store _ _ _ _ _ c.in_ok-offers.ensures.looks

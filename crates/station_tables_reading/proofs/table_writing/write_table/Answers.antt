@@ -1,11 +1,11 @@
 -- `write_table`: writes a table of the channel, in one transaction, and says whether the channel is in the plan.
-use Rattle.std.proofs.Common.{List, ℕ, sym, subst, arith, rules}
+use Rattle.std.proofs.Common.{List, ℕ, ap, ◌∙◌, subst, arith, rules}
 use Rattle.std.specs.Prelude.{OnErr}
 use Rattle.sqlite.specs.State.{HasCleanDisk}
 use Rattle.sqlite.specs.Held.{state}
 use Rattle.reports.specs.Output.{AppendsPart}
 use Rattle.reports.proofs.LineLemmas.{map_err}
-use Rattle.channel_view_model.specs.Centre.{Centre, view_of}
+use Rattle.channel_view_model.specs.Centre.{Centre, plan_of, view_of}
 use Rattle.channel_view_model.specs.TableText.{text_at}
 use Rattle.station_tables_records.specs.Inside.{inside}
 use Rattle.station_tables_statements.specs.Rows.{HasSet}
@@ -13,7 +13,7 @@ use Rattle.station_tables_reading.proofs.SeenLemmas.{open_or_shut, own_set, rule
 use Rattle.station_tables_reading.proofs.table_writing.write_table.Goals as goal
 
 pub returns-clause-err : goal.returns-clause-err
-returns-clause-err g c clean rows stands =
+returns-clause-err g c clean rows stands known =
     let s = g.S.Store in
     let begun = inside s c.transaction-tx.result in
     let done : HasCleanDisk (state s c.drop-tx.new.self.0) = search (rules, clean) in
@@ -27,7 +27,8 @@ returns-clause-err g c clean rows stands =
     open_or_shut begun.is_open
     (λ o. let holds = held clean_begun o in
     subst part holds.rows_are
-    (c.write_seen.ensures.err (λ fine opened. (held fine opened).centre) early (own_set begun.now rows holds)))
+    (c.write_seen.ensures.err (λ fine opened. (held fine opened).centre) early
+    (ap (plan_of c.args.channel) holds.rows_are ∙ known) (own_set begun.now rows holds)))
     (λ shut. map_err c.write_seen.result (λ none. (0, none)) (c.write_seen.ensures.shut early shut))
 
 -- a table is given of rows that keep the rules alone

@@ -14,26 +14,26 @@ use Rattle.station_tables_reading.proofs.view_loading.read_view.Goals as goal
 
 pub returns-in_default-clause-view : goal.returns-in_default-clause-view
 unfolding view_of
-returns-in_default-clause-view g c centre clean rules =
+returns-in_default-clause-view g c centre clean rules known =
     let rows = set_in (inside g.S.Store c.args.tx.now) in
-    ap (option_map (view_at c.args.channel rows)) (sym c.in_default.is ∙ c.in_ok-plan.ensures.plan centre clean)
+    ap (option_map (view_at c.args.channel rows)) (sym (known ∙ c.in_default.is))
 
 pub returns-clause-reads : goal.returns-clause-reads
 returns-clause-reads g c =
     reads_on g.S.Store _ _ _ _
-    (reads_then g.S.Store _ _ _ _ _ c.in_ok-plan.ensures.reads
+    (reads_then g.S.Store _ _ _ _ _ c.in_ok-test_open.ensures.reads
     (reads_then g.S.Store _ _ _ _ _ c.in_ok-own.ensures.reads
     (reads_then g.S.Store _ _ _ _ _ c.in_ok-lent.ensures.reads
     (reads_then g.S.Store _ _ _ _ _ c.in_ok-days.ensures.reads c.in_ok-aired.ensures.reads))))
 
 pub returns-clause-view : goal.returns-clause-view
 unfolding view_of
-returns-clause-view g c centre clean rules =
+returns-clause-view g c centre clean rules known =
     let s = g.S.Store in
     let rows = set_in (inside s c.args.tx.now) in
     let ch = c.args.channel in
     let plan = c.in-Some.plan in
-    let planned = read_is_look s _ _ _ c.in_ok-plan.ensures.reads in
+    let opened = read_is_look s _ _ _ c.in_ok-test_open.ensures.reads in
     let own_look = read_is_look s _ _ _ c.in_ok-own.ensures.reads in
     let lent_look = read_is_look s _ _ _ c.in_ok-lent.ensures.reads in
     let days_look = read_is_look s _ _ _ c.in_ok-days.ensures.reads in
@@ -41,16 +41,14 @@ returns-clause-view g c centre clean rules =
     let clean_days = was_clean s _ _ _ aired_look clean in
     let clean_lent = was_clean s _ _ _ days_look clean_days in
     let clean_own = was_clean s _ _ _ lent_look clean_lent in
-    let clean_planned = was_clean s _ _ _ own_look clean_own in
-    let owned = looks_then s _ _ _ _ _ planned own_look in
+    let owned = looks_then s _ _ _ _ _ opened own_look in
     let lent_read = looks_then s _ _ _ _ _ owned lent_look in
     let days_read = looks_then s _ _ _ _ _ lent_read days_look in
-    let planned_is : plan_of ch rows ≡ Some plan =
-    sym (sym c.in-Some.is ∙ c.in_ok-plan.ensures.plan centre clean_planned) in
+    let planned_is : plan_of ch rows ≡ Some plan = known ∙ c.in-Some.is in
     let mine : plan.ch ≡ ch = found_channel ch rows.channels plan planned_is in
     let there : plan_of plan.ch rows ≡ Some plan = subst (λ k. plan_of k rows ≡ Some plan) (sym mine) planned_is in
     let own =
-    set_before s _ _ _ _ _ planned own_look (λ set. c.in_ok-own.own ≡ own_of plan.ch plan set)
+    set_before s _ _ _ _ _ opened own_look (λ set. c.in_ok-own.own ≡ own_of plan.ch plan set)
     c.in_ok-own.ensures.own centre clean_own ∙ ap (λ k. own_of k plan rows) mine in
     let lent =
     set_before s _ _ _ _ _ owned lent_look (λ set. c.in_ok-lent.lent ≡ grants_to ch set.offers)
@@ -70,14 +68,14 @@ returns-clause-view g c centre clean rules =
 pub returns-in_err-days-clause-reads : goal.returns-in_err-days-clause-reads
 returns-in_err-days-clause-reads g c =
     reads_failed g.S.Store _ _ _ _ c.from_residual-in_err-days.ensures.0
-    (reads_then g.S.Store _ _ _ _ _ c.in_ok-plan.ensures.reads
+    (reads_then g.S.Store _ _ _ _ _ c.in_ok-test_open.ensures.reads
     (reads_then g.S.Store _ _ _ _ _ c.in_ok-own.ensures.reads
     (reads_then g.S.Store _ _ _ _ _ c.in_ok-lent.ensures.reads c.load_all_days.ensures.reads)))
 
 pub returns-in_err-aired-clause-reads : goal.returns-in_err-aired-clause-reads
 returns-in_err-aired-clause-reads g c =
     reads_failed g.S.Store _ _ _ _ c.from_residual-in_err-aired.ensures.0
-    (reads_then g.S.Store _ _ _ _ _ c.in_ok-plan.ensures.reads
+    (reads_then g.S.Store _ _ _ _ _ c.in_ok-test_open.ensures.reads
     (reads_then g.S.Store _ _ _ _ _ c.in_ok-own.ensures.reads
     (reads_then g.S.Store _ _ _ _ _ c.in_ok-lent.ensures.reads
     (reads_then g.S.Store _ _ _ _ _ c.in_ok-days.ensures.reads c.load_all_airings.ensures.reads))))
@@ -85,7 +83,7 @@ returns-in_err-aired-clause-reads g c =
 pub returns-in_err-view-clause-reads : goal.returns-in_err-view-clause-reads
 returns-in_err-view-clause-reads g c =
     reads_failed g.S.Store _ _ _ _ c.from_residual-in_err-view.ensures.0
-    (reads_then g.S.Store _ _ _ _ _ c.in_ok-plan.ensures.reads
+    (reads_then g.S.Store _ _ _ _ _ c.in_ok-test_open.ensures.reads
     (reads_then g.S.Store _ _ _ _ _ c.in_ok-own.ensures.reads
     (reads_then g.S.Store _ _ _ _ _ c.in_ok-lent.ensures.reads
     (reads_then g.S.Store _ _ _ _ _ c.in_ok-days.ensures.reads c.in_ok-aired.ensures.reads))))

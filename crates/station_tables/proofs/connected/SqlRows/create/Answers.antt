@@ -4,13 +4,16 @@ use Rattle.station_tables.proofs.StandLemmas.{leaves_alone}
 use Rattle.station_tables.proofs.OpenLemmas.{stands_alone}
 use Rattle.station_tables.proofs.connected.SqlRows.create.Goals as goal
 
-pub returns-in-Ok-clause-made : goal.returns-in-Ok-clause-made
-returns-in-Ok-clause-made g c = record {
-  rows = λ bare clean. c.in-Ok.ensures.ok bare clean;
+pub returns-in-Ok-create_centre-clause-made : goal.returns-in-Ok-create_centre-clause-made
+returns-in-Ok-create_centre-clause-made g c = record {
+  rows = λ bare clean. c.in-Ok-create_centre.ensures.ok bare clean;
   alone =
-      λ bare clean left may. stands_alone _ _ (c.in-Ok.ensures.ok bare clean) (c.in-Ok.ensures.alone clean) left may;
-  sets = λ bare clean. leaves_alone _ _ (c.in-Ok.ensures.ok bare clean) (c.in-Ok.ensures.alone clean) clean;
-  settled = λ clean. c.in-Ok.ensures.alone clean;
-  taken = λ has clean. c.in-Ok.ensures.taken has clean;
+      λ bare clean left may. stands_alone _ _ (c.in-Ok-create_centre.ensures.ok bare clean)
+      (c.in-Ok-create_centre.ensures.alone clean) left may;
+  sets =
+      λ bare clean. leaves_alone _ _ (c.in-Ok-create_centre.ensures.ok bare clean)
+      (c.in-Ok-create_centre.ensures.alone clean) clean;
+  settled = λ clean. c.in-Ok-create_centre.ensures.alone clean;
+  taken = λ has clean. c.in-Ok-create_centre.ensures.taken has clean;
   only_a_plan = search (rules);
 }

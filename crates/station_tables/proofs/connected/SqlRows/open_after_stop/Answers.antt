@@ -10,8 +10,12 @@ pub returns-clause-ok : goal.returns-clause-ok
 returns-clause-ok g c = IfOk-weaker c.open_after_refusal.result _ _ (λ s opened sets finds clean.
     let trees = (state g.S.Store c.args.found).now.trees in
     let held = sets finds.clean trees finds.left in
-    let found = opened (leaves_centres (store_state g.T.Store c.args.stopped.now) sets) finds clean in
-    (found.1, (trees, finds.left, (second_held found.0 found.1 held.0 trees found.2 held.1).rows_are), found.3))
+    let found = opened (leaves_centres (store_state g.T.Store c.args.stopped.now) sets) finds clean in (
+      found.1,
+      (trees, finds.left, (second_held found.0 found.1 held.0 trees found.2 held.1).rows_are),
+      found.3,
+      found.4,
+    ))
     c.open_after_refusal.ensures.ok
 
 pub returns-clause-err : goal.returns-clause-err
