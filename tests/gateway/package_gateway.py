@@ -56,8 +56,9 @@ with socket.create_connection(("127.0.0.1", 8102), timeout=5) as it:
     say("Permission denied" in said, "Debian's nginx doesn't read it", said)
     code, text, _ = asked("/health")
     say(code == 200, "the gateway and the login service reach the offices", (code, text))
-    # As nftables.service does it.
+    # As nftables.service does it. One that its timer has begun before may have looked at the rules already: the next one hasn't.
     run("nft", "flush", "ruleset")
+    run("systemctl", "start", "temolunai-metrics")
     run("systemctl", "start", "temolunai-metrics")
     said = as_user("nobody", "import socket; socket.create_connection(('127.0.0.1', 8102), timeout=5); print('in')")
     tables = run("nft", "list", "tables")[1]

@@ -6,6 +6,7 @@
 
 import datetime
 import os
+import re
 import shutil
 import signal
 import socket
@@ -82,6 +83,15 @@ class Ready(Folder):
             with peer:
                 peer.sendall(b'HTTP/1.1 400 Bad Request\r\nContent-Length: 35\r\n\r\n{"code":400,"refused":"BadMessage"}')
             self.assertEqual(0, waits.wait(5))
+
+
+class Heap(unittest.TestCase):
+    def test_it_is_set_alike_by_hand_and_by_the_unit(self):
+        found = set()
+        for name in ("playout", "deploy/temolunai@.service", "tests/replica/harness.py"):
+            with open(f"{DEPLOY}/../{name}", encoding="utf-8") as it:
+                found |= set(re.findall(r"glibc\.malloc\.[\w.=:]+", it.read()))
+        self.assertEqual(1, len(found), found)
 
 
 class Logs(Folder):

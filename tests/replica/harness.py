@@ -14,7 +14,7 @@ import time
 TOP = os.path.dirname(os.path.dirname(os.path.dirname(os.path.realpath(__file__))))
 PLAYOUT = os.environ.get("PLAYOUT", f"{TOP}/playout")
 PYTHON = "/usr/bin/python3"
-TUNABLES = {"GLIBC_TUNABLES": "glibc.malloc.trim_threshold=67108864:glibc.malloc.mmap_threshold=33554432:glibc.malloc.hugetlb=1"}
+TUNABLES = {"GLIBC_TUNABLES": "glibc.malloc.trim_threshold=1048576:glibc.malloc.mmap_threshold=33554432:glibc.malloc.hugetlb=1"}
 
 passed = failed = 0
 # What is undone at the end, the last first.
