@@ -1,0 +1,109 @@
+"""How long a fresh clone waits, for `.ci/bench first`: for the first answer without a proof, for the first one that is
+proved, for the whole program, and with the word --gate for `.ci/run`; of each the processor's time, and the most memory that
+the machine had in use meanwhile, less what it had before.
+
+Each commit has a clone of its own. What checks of other clones have kept on this machine is put aside meanwhile, since `rt`
+would begin with it. The figures of two commits may be compared where nothing else was at work."""
+
+import contextlib
+import os
+import resource
+import shutil
+import subprocess
+import sys
+import tempfile
+import threading
+import time
+from dataclasses import dataclass
+from typing import Iterator, Sequence
+
+# The README's first command.
+MESSAGE = b'POST /ch/1/tapes HTTP/1.1\r\nContent-Length: 25\r\n\r\n{"barcode":"T1","slot":1}'
+ANSWER = b'HTTP/1.1 200 OK\r\nContent-Length: 10\r\nContent-Type: application/json\r\n\r\n{"tape":1}'
+OVER_MEMORY = ("answer", "1,25,06:00:00:00,40")
+
+
+@dataclass(frozen=True)
+class Took:
+    """What a command took: seconds of wall and of processor, and megabytes."""
+
+    wall: float
+    processor: float
+    memory: float
+
+
+def in_use() -> float:
+    """How much memory of this machine is in use, in MB."""
+    with open("/proc/meminfo", encoding="ascii") as file:
+        found = dict(line.split()[:2] for line in file)
+    return (int(found["MemTotal:"]) - int(found["MemAvailable:"])) / 1024
+
+
+class Peak:
+    """The most memory in use while it is entered, less what was in use before."""
+
+    def __enter__(self) -> "Peak":
+        self.before, self.most, self.ended = in_use(), 0.0, threading.Event()
+        self.thread = threading.Thread(target=self.look)
+        self.thread.start()
+        return self
+
+    def look(self) -> None:
+        while not self.ended.wait(1):
+            self.most = max(self.most, in_use() - self.before)
+
+    def __exit__(self, *_: object) -> None:
+        self.ended.set()
+        self.thread.join()
+
+
+def took(words: Sequence[str], folder: str, wanted: bytes | None = None) -> Took:
+    """What a command took; with an answer that is wanted, it gets the message."""
+    begun, before = time.monotonic(), resource.getrusage(resource.RUSAGE_CHILDREN)
+    with Peak() as peak:
+        given = b"" if wanted is None else MESSAGE
+        ran = subprocess.run(words, cwd=folder, input=given, stdout=subprocess.PIPE, check=False)
+    if ran.returncode or wanted not in (None, ran.stdout):
+        raise SystemExit(f"bench: {' '.join(words)}: exit status {ran.returncode}, {ran.stdout[-200:]!r}")
+    after = resource.getrusage(resource.RUSAGE_CHILDREN)
+    spent = after.ru_utime + after.ru_stime - before.ru_utime - before.ru_stime
+    return Took(time.monotonic() - begun, spent, peak.most)
+
+
+@contextlib.contextmanager
+def nothing_kept() -> Iterator[None]:
+    """No check begins with what another one has kept on this machine."""
+    kit = os.path.dirname(os.path.dirname(os.path.realpath(shutil.which("rt") or sys.exit("bench: there is no rt here"))))
+    kept = f"{os.path.dirname(kit)}/rattle-kept"
+    if os.path.isdir(kept):
+        os.rename(kept, f"{kept}.aside")
+    try:
+        yield
+    finally:
+        if os.path.isdir(f"{kept}.aside"):
+            shutil.rmtree(kept, ignore_errors=True)
+            os.rename(f"{kept}.aside", kept)
+
+
+def of_commit(top: str, commit: str, gate: bool) -> dict[str, Took]:
+    """What a fresh clone of this commit took."""
+    found = {}
+    with nothing_kept(), tempfile.TemporaryDirectory(dir=os.path.dirname(top)) as room:
+        subprocess.run(["git", "clone", "--quiet", top, f"{room}/it"], check=True)
+        subprocess.run(["git", "checkout", "--quiet", commit], cwd=f"{room}/it", check=True)
+        found["unproved"] = took(["./preview", *OVER_MEMORY], f"{room}/it", ANSWER)
+        found["first answer"] = took(["./playout", *OVER_MEMORY], f"{room}/it", ANSWER)
+        # What goes on behind it is ended, and begun anew by what waits for it.
+        subprocess.run(["pkill", "-INT", "-f", f"{room}/it/.ci/prove"], check=False)
+        found["the rest"] = took([".ci/prove"], f"{room}/it")
+        if gate:
+            found["the gate"] = took([".ci/run"], f"{room}/it")
+    return found
+
+
+def of_first(top: str, words: Sequence[str]) -> None:
+    """Prints a line for each commit and what was waited for."""
+    print("| Commit | Waited for | wall, s | processor, s | memory, MB |\n|---|---|---|---|---|")
+    for commit in [it for it in words if it != "--gate"] or ["HEAD"]:
+        for name, it in of_commit(top, commit, "--gate" in words).items():
+            print(f"| {commit} | {name} | {it.wall:.0f} | {it.processor:.0f} | {it.memory:.0f} |", flush=True)
