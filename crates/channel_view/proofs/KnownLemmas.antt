@@ -22,12 +22,12 @@ use Rattle.channel_view_model.specs.Tables.{rows_of}
 use Rattle.channel_view_model.specs.Days.{day_at, day_or, no_day}
 use Rattle.channel_view_model.specs.Centre.{Centre, IsChangeOf, plan_of, changed, own_changed, day_changed, view_at}
 use Rattle.channel_view_model.specs.Centre.{view_of}
-use Rattle.channel_view_model.specs.Need.{IsFetched, IsDayAnswer}
+use Rattle.channel_view_model.specs.Need.{IsFetched, IsDayAnswer, AreSourceAnswers}
 use Rattle.channel_view_model.specs.Rules.{KeepsRules}
 use Rattle.channel_view_model.proofs.TableLemmas.{rows_of-replace_same, rows_of-replace_other}
 use Rattle.channel_view_model.proofs.RuleLemmas.{change_keeps, days_in_order}
 use Rattle.channel_view.specs.declared.known.KnownDay.{KnownDay}
-use Rattle.channel_view.specs.Known.{HasDay, IsKnown, AreKnown, is_day_of, with_day, without_day}
+use Rattle.channel_view.specs.Known.{AsksBeside, HasDay, IsKnown, AreKnown, is_day_of, with_day}
 
 -- what is found has what all have
 pub found_has : {X : Type 0} (P : X → Type 0) (p : X → Bool) (xs : List X) (x : X) → All P xs → find p xs ≡ Some x → P x
@@ -65,14 +65,17 @@ part_has rows c need part day fetched is there = by (plan_of c rows) fetched
             let same : day ≡ day_at p (listed (rows_of c rows.days)) n = cc in
             day_found p (rows_of c rows.days) n day (find (λ d. d.number == n) (rows_of c rows.days)) refl same there
 
--- a part of all but the day, and the day that the rows have, are the part
-pub part_with : (rows : Centre) (c : ℕ) (need : Need) (part : Option Part) (day : Day)
-    → IsFetched (without_day need) (view_of c rows) part → need.day ≡ Some day.number → HasDay rows c day
-    → IsFetched need (view_of c rows) (with_day day part)
+-- a part of what is asked for beside the day, and the day that the rows have, are the part
+pub part_with : (rows : Centre) (c : ℕ) (need beside : Need) (part : Option Part) (day : Day)
+    → AsksBeside day need beside → IsFetched beside (view_of c rows) part → need.day ≡ Some day.number
+    → HasDay rows c day → IsFetched need (view_of c rows) (with_day day part)
 unfolding view_of
-part_with rows c need part day fetched asked has = by (plan_of c rows) part fetched
+part_with rows c need beside part day asks fetched asked has =
+    by (plan_of c rows) part
+    (subst (λ n. IsFetched n (option_map (view_at c rows) (plan_of c rows)) part) asks.others fetched)
   where
-    by : (p : Option PlanRow) (o : Option Part) → IsFetched (without_day need) (option_map (view_at c rows) p) o
+    by : (p : Option PlanRow) (o : Option Part)
+        → IsFetched (record need { day = None; items = beside.items }) (option_map (view_at c rows) p) o
         → IsFetched need (option_map (view_at c rows) p) (with_day day o)
     by None None f = f
     by None (Some it) f = absurd f
@@ -86,7 +89,10 @@ part_with rows c need part day fetched asked has = by (plan_of c rows) part fetc
           ap Some (ap (day_or (no_day p day.number)) (sym has))
           ∙ ap (option_map (day_at p (listed (rows_of c rows.days)))) (sym asked);
       aired = f.aired;
-      sources = f.sources;
+      sources =
+          subst
+          (λ items. AreSourceAnswers need.sources items (view_at c rows p).own.clips (view_at c rows p).lent
+          it.sources.clips.items it.sources.grants.items) (asks.items it.day) f.sources;
     }
 
 -- a change of own rows leaves the days

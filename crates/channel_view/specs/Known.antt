@@ -6,6 +6,7 @@ use Rattle.channel_view_model.specs.declared.need.Need.{Need}
 use Rattle.channel_view_model.specs.declared.part.Part.{Part}
 use Rattle.channel_view_model.specs.Tables.{rows_of}
 use Rattle.channel_view_model.specs.Centre.{Centre}
+use Rattle.channel_view_model.specs.Need.{items_asked}
 use Rattle.channel_view_model.specs.Rules.{KeepsRules}
 use Rattle.channel_view.specs.declared.known.KnownDay.{KnownDay}
 
@@ -29,9 +30,10 @@ AreKnown rows days = All (IsKnown rows) days
 abbrev pub is_day_of : ℕ → ℕ → KnownDay → Bool
 is_day_of c n known = known.channel == c && known.day.number == n
 
--- all that a command needs but the day
-abbrev pub without_day : Need → Need
-without_day need = record need { day = None }
+-- all that a need asks for beside a day, whose items are at hand
+pub record AsksBeside (day : Day) (need beside : Need) : Type 0 where
+  pub others : beside ≡ record need { day = None; items = beside.items }
+  pub items : (own : Option Day) → items_asked beside.items own ≡ items_asked need.items (Some day)
 
 -- a part with this day in it
 abbrev pub with_day : Day → Option Part → Option Part

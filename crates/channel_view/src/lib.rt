@@ -22,9 +22,9 @@
 //! (`few`), and none where no memory is there for it.
 //!
 //! [`run`] takes the room for all outcomes first: refused, nothing was done (`err`). A [`Part`] holds the
-//! answers to what is asked and nothing else (`IsPartOf`). [`MemRows`] stands for its lists where these keep
-//! the rules; `MemRows::new` is the plan alone, and takes only a plan (`plan`, `alone`, `only_a_plan`,
-//! `rules`).
+//! answers to what is asked and nothing else, but clips that are seen beside those that items name (`IsPartOf`).
+//! [`MemRows`] stands for its lists where these keep the rules; `MemRows::new` is the plan alone, and takes only a plan
+//! (`plan`, `alone`, `only_a_plan`, `rules`).
 #![tactic(auto)]
 
 mod known;

@@ -20,8 +20,7 @@ ghost use Rattle.channel_view_model.specs.Tables.{alter_row, replace_row};
 ghost use Rattle.channel_view_model.specs.Seen.{grants_to};
 ghost use Rattle.channel_view_model.specs.Centre.{IsInOrder, plan_of, own_of, own_changed, day_changed};
 ghost use Rattle.channel_view_model.specs.Centre.{airing_changed, view_at};
-ghost use Rattle.channel_view_model.specs.declared.need.SourcesAsked.TheVariants as SourcesAsked;
-ghost use Rattle.channel_view_model.specs.Need.{AreSourceAnswers, IsPartOf};
+ghost use Rattle.channel_view_model.specs.Need.{AreSourceAnswers, IsPartOf, IsSourceAnswer, NamesAlike};
 ghost use Rattle.channel_view_model.specs.Rules.{KeepsRules};
 ghost use Rattle.channel_view_model.specs.TableText.{table_text};
 
@@ -30,15 +29,15 @@ use crate::mem_days::{airing_found, day_found, grant_to, just, set_day};
 use asrun_match::DayAsRun;
 use channel_plan::{Code, PlanRow, Refusal, is_plan};
 use channel_view_model::{
-    CentreRows, Change, Need, Part, RowStore, SourcesAsked, Table, TableFault, VaultChange, View,
-    airings_alone, days_alone,
+    CentreRows, Change, FEW_ITEMS, Need, Part, RowStore, SourcesAsked, Table, TableFault,
+    VaultChange, View, airings_alone, days_alone, items_asked,
 };
 use channel_view_rules::{
     channel_end, channel_rows, channel_start, grants_to, without_channels, write_clips_of,
     write_days_of, write_offers_of, write_vault_of,
 };
 use grant_core::{LentRows, OffersAsked, OffersFound, OpenOffer, is_open_to};
-use playlist_core::{DayPlan, Source, SourcesFound};
+use playlist_core::{DayPlan, Item, Source, SourcesFound};
 use reports::RowFault;
 use std::alloc::Global;
 use std::io::Write;
@@ -125,7 +124,7 @@ impl MemRows {
         }
     }
 
-    fn part_at(&self, channel: u16, plan: PlanRow, need: &Need) -> Result<Part, Unavailable>
+    fn part_at(&self, channel: u16, plan: PlanRow, need: &Need<'_>) -> Result<Part, Unavailable>
         ensures { KeepsRules self.now → plan_of channel self.now ≡ Some plan →
             IfOk result (IsPartOf need.now (view_at channel self.now plan)) }
     {
@@ -134,37 +133,72 @@ impl MemRows {
         let offers = channel_rows(&self.rows.offers, channel);
         let days = channel_rows(&self.rows.days, channel);
         let aired = channel_rows(&self.rows.aired, channel);
+        let day = day_found(self.alloc, &plan, days, &need.day)?;
+        let items = items_asked(need.items, &day);
+        let sources = self.sources_at(channel, need.sources, items)?;
         Ok(Part {
             plan,
             tapes: tapes_found(tapes, &need.tapes),
             clips: clips_found(clips, &need.clips),
             offers: offers_found(offers, &need.offers),
-            day: day_found(self.alloc, &plan, days, &need.day)?,
+            day,
             aired: airing_found(self.alloc, &plan, aired, &need.aired)?,
-            sources: self.sources_at(channel, need.sources)?,
+            sources,
         })
     }
 
-    // The clips and the lent clips that are asked for.
-    fn sources_at(&self, channel: u16, asked: SourcesAsked) -> Result<SourcesFound, Unavailable>
+    // The clips and the lent clips that are asked for, of these items.
+    fn sources_at(
+        &self,
+        channel: u16,
+        asked: SourcesAsked,
+        items: &[Item],
+    ) -> Result<SourcesFound, Unavailable>
         ensures { is_numbered_from (λ k. k.n) 1 (rows_of channel self.now.clips) ≡ true →
-            IfOk result (λ found. AreSourceAnswers asked (rows_of channel self.now.clips)
+            IfOk result (λ found. AreSourceAnswers asked items.now (rows_of channel self.now.clips)
             (grants_to channel self.now.offers) found.clips.items found.grants.items) }
     {
         match asked {
             SourcesAsked::Nothing => Ok(SourcesFound::nothing(self.alloc)),
             SourcesAsked::One(source) => self.source_at(channel, source),
-            SourcesAsked::All => Ok(SourcesFound {
-                clips: without_channels(self.alloc, channel_rows(&self.rows.clips, channel))?,
-                grants: grants_to(self.alloc, &self.rows.offers, channel)?,
-            }),
+            SourcesAsked::OfItems => self.sources_of(channel, items),
+            SourcesAsked::All => self.all_sources(channel),
         }
+    }
+
+    // What these items name; of many items, all.
+    fn sources_of(&self, channel: u16, items: &[Item]) -> Result<SourcesFound, Unavailable>
+        ensures { is_numbered_from (λ k. k.n) 1 (rows_of channel self.now.clips) ≡ true →
+            IfOk result (λ found. NamesAlike items.now (rows_of channel self.now.clips)
+            (grants_to channel self.now.offers) found.clips.items found.grants.items) }
+    {
+        if items.len() > FEW_ITEMS {
+            return self.all_sources(channel);
+        }
+        let mut found = SourcesFound::nothing(self.alloc);
+        for item in items {
+            let named = self.source_at(channel, item.src)?;
+            found.clips.extend_from_slice(&named.clips)?;
+            found.grants.extend_from_slice(&named.grants)?;
+        }
+        Ok(found)
+    }
+
+    // All of the channel's clips, and all that are lent to it.
+    fn all_sources(&self, channel: u16) -> Result<SourcesFound, Unavailable>
+        ensures { IfOk result (λ found. (found.clips.items ≡ rows_of channel self.now.clips)
+            × (found.grants.items ≡ grants_to channel self.now.offers)) }
+    {
+        Ok(SourcesFound {
+            clips: without_channels(self.alloc, channel_rows(&self.rows.clips, channel))?,
+            grants: grants_to(self.alloc, &self.rows.offers, channel)?,
+        })
     }
 
     // What a source names.
     fn source_at(&self, channel: u16, source: Source) -> Result<SourcesFound, Unavailable>
         ensures { is_numbered_from (λ k. k.n) 1 (rows_of channel self.now.clips) ≡ true →
-            IfOk result (λ found. AreSourceAnswers (SourcesAsked.One source) (rows_of channel self.now.clips)
+            IfOk result (λ found. IsSourceAnswer source (rows_of channel self.now.clips)
             (grants_to channel self.now.offers) found.clips.items found.grants.items) }
     {
         match source {
@@ -245,7 +279,7 @@ impl RowStore for MemRows {
     }
 
     #[tactic(auto, unfolding(channel_view_model::specs::Centre::view_of))]
-    fn fetch(&mut self, channel: u16, need: &Need) -> Result<Option<Part>, Unavailable> {
+    fn fetch(&mut self, channel: u16, need: &Need<'_>) -> Result<Option<Part>, Unavailable> {
         match self.plan_of(channel) {
             None => Ok(None),
             Some(plan) => Ok(Some(self.part_at(channel, plan, need)?)),

@@ -4,7 +4,7 @@ ghost use Rattle.channel_view_model.specs.declared.need.Need.{Need};
 ghost use Rattle.channel_view_model.specs.Centre.{Centre, view_of};
 ghost use Rattle.channel_view_model.specs.Need.{IsFetched};
 ghost use Rattle.channel_view_model.specs.Rules.{KeepsRules};
-ghost use Rattle.channel_view.specs.Known.{AreKnown, HasDay, most_days, with_day, without_day};
+ghost use Rattle.channel_view.specs.Known.{AreKnown, AsksBeside, HasDay, most_days, with_day};
 
 use crate::known::{KnownDay, apply, insert, known_day};
 use channel_view_model::{Change, DayNumber, Need, Part, RowStore, Table, TableFault, View};
@@ -66,11 +66,22 @@ impl<S> RecentDays<S> {
     }
 }
 
-// All that is asked for but the day.
-fn without_day(need: &Need) -> Need
-    ensures { result ≡ without_day need.now }
+// All that is asked for beside this day, whose items are at hand.
+fn beside_day<'a, 'b: 'a>(need: &Need<'b>, day: &'a DayPlan) -> Need<'a>
+    ensures { AsksBeside day.now need.now result }
 {
-    Need { day: None, ..*need }
+    Need {
+        tapes: need.tapes,
+        clips: need.clips,
+        offers: need.offers,
+        day: None,
+        items: match need.items {
+            Some(items) => Some(items),
+            None => Some(day.items()),
+        },
+        aired: need.aired,
+        sources: need.sources,
+    }
 }
 
 // The part with this day in it.
@@ -115,10 +126,10 @@ impl<S: RowStore> RowStore for RecentDays<S> {
         self.store.load(channel)
     }
 
-    fn fetch(&mut self, channel: u16, need: &Need) -> Result<Option<Part>, Unavailable> {
+    fn fetch(&mut self, channel: u16, need: &Need<'_>) -> Result<Option<Part>, Unavailable> {
         match self.day_asked(channel, need.day)? {
             Some(day) => {
-                let part = self.store.fetch(channel, &without_day(need))?;
+                let part = self.store.fetch(channel, &beside_day(need, &day))?;
                 Ok(with_day(part, day))
             }
             None => {

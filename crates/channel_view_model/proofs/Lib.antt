@@ -12,5 +12,7 @@ pub mod WalkLemmas
 pub mod RuleLemmas
 pub mod ViewLemmas
 pub mod DayWalkLemmas
+pub mod NamedLemmas
+pub mod AlikeLemmas
 pub mod NeedLemmas
 pub mod SourceLemmas

@@ -1,21 +1,23 @@
 -- What is decided of a part, and a table that is written, are decided of what the channel sees.
-use Rattle.std.proofs.Common.{◌≡◌, ℕ, List, [], ◌∷◌, Bool, true, false, ◌&&◌, refl, sym, ◌∙◌, ap, subst, arith}
+use Rattle.std.proofs.Common.{◌≡◌, ℕ, List, [], true, ◌&&◌, refl, sym, ◌∙◌, ap, subst, arith}
 use Rattle.std.specs.Prelude.{find}
 use Rattle.vault_core.specs.declared.clip.Clip.{Clip}
 use Rattle.grant_core.specs.declared.grant.Grant.{Grant}
 use Rattle.std.specs.Prelude.{Option, Some, None, is_some}
 use Rattle.std.specs.Io.KnownBytes.{Appends}
 use Rattle.std.specs.Option.{option_map}
+use Rattle.std.specs.List.{All}
 use Rattle.channel_view_model.specs.declared.need.Need.{Need}
 use Rattle.channel_view_model.specs.declared.view.View.{View}
 use Rattle.channel_view_model.specs.declared.part.Part.{Part}
 use Rattle.channel_view_model.specs.declared.table.Table.{Table}
 use Rattle.channel_view_model.specs.declared.command.Command.TheVariants as commands
 use Rattle.channel_view_model.specs.declared.command.Reply.TheVariants as replies
-use Rattle.channel_view_model.specs.declared.command.Change.TheVariants.{Nothing}
+use Rattle.channel_view_model.specs.declared.command.Change.TheVariants.{Nothing, Day as OnDay}
 use Rattle.vault_core.specs.Questions.{listed}
 use Rattle.channel_view_model.specs.Seen.{seen_in, sources_seen}
-use Rattle.channel_view_model.specs.Decide.{decision, day_decision, airing_decision, numbers_in_range, item_added}
+use Rattle.channel_view_model.specs.Decide.{decision, day_decision, airing_decision, answered, numbers_in_range}
+use Rattle.channel_view_model.specs.Decide.{item_added, written}
 use Rattle.std.specs.Prelude.{Result, Ok, Err, ◌+◌, ◌==◌, nat_lt, if◌then◌else◌}
 use Rattle.channel_plan.specs.declared.plan.PlanRow.{PlanRow}
 use Rattle.channel_plan.specs.declared.refusal.Refusal.{Refusal}
@@ -26,6 +28,8 @@ use Rattle.playlist_core.specs.declared.source.Source.{Source}
 use Rattle.playlist_core.specs.declared.source.Source.TheVariants.{Black, Bars, Own as OwnClip, Lent as LentClip}
 use Rattle.playlist_core.specs.Source.{SourcesSeen, source_of_reel, seen_of, found, of_clip, of_grant}
 use Rattle.playlist_core.specs.declared.item.Item.{Item}
+use Rattle.playlist_core.specs.declared.day.DayState.TheVariants.{Sealed}
+use Rattle.playlist_core.specs.Difference.{changed_day}
 use Rattle.playlist_core.specs.Picture.{first_painted}
 use Rattle.playlist_core.specs.Day.{Day, if_open, row_fault, unless, unless_taken, with_number, free_number, picture_in}
 use Rattle.playlist_core.specs.Day.{item_of, item_in, item_for}
@@ -40,7 +44,9 @@ use Rattle.channel_view_model.specs.TableText.{text_at}
 use Rattle.channel_view_model.specs.declared.need.SourcesAsked.{SourcesAsked}
 use Rattle.channel_view_model.specs.declared.need.SourcesAsked.TheVariants as asking
 use Rattle.channel_view_model.specs.Need.{IsPartOf, IsFetched, AreSourceAnswers, IsDayAnswer, IsAiringAnswer}
-use Rattle.channel_view_model.specs.Need.{one_source, sources_asked, clips_of, grants_of}
+use Rattle.channel_view_model.specs.Need.{one_source, sources_asked, clips_of, grants_of, items_asked, items_in}
+use Rattle.channel_view_model.proofs.NamedLemmas.{passes}
+use Rattle.channel_view_model.proofs.AlikeLemmas.{sealed_alike, exported_alike}
 
 module _ {X : Type 0} (f : View → X) (need : Need) where
   pub none_fetched : (view : Option View) → IsFetched need view None → None ≡ option_map f view
@@ -52,11 +58,12 @@ module _ {X : Type 0} (f : View → X) (need : Need) where
   some_fetched None part x is by = absurd is
   some_fetched (Some v) part x is by = ap Some (by v is)
 
--- the same clip or lent clip is found for each source that is asked for
-abbrev pub AreFoundAlike : SourcesAsked → SourcesSeen → SourcesSeen → Type 0
-AreFoundAlike asking.Nothing seen part = Unit {0}
-AreFoundAlike (asking.One source) seen part = found part source ≡ found seen source
-AreFoundAlike asking.All seen part = part ≡ seen
+-- the same clip or lent clip is found for each source that is asked for, of a day of these items
+abbrev pub AreFoundAlike : SourcesAsked → List Item → SourcesSeen → SourcesSeen → Type 0
+AreFoundAlike asking.Nothing items seen part = Unit {0}
+AreFoundAlike (asking.One source) items seen part = found part source ≡ found seen source
+AreFoundAlike asking.OfItems items seen part = All (λ i. found part i.src ≡ found seen i.src) items
+AreFoundAlike asking.All items seen part = part ≡ seen
 
 -- what is decided of a part's sources is decided of all that are seen
 module _ (plan : PlanRow) (day : Day) (seen part : SourcesSeen) where
@@ -66,7 +73,7 @@ module _ (plan : PlanRow) (day : Day) (seen part : SourcesSeen) where
       unless_taken plan (first_painted new.pos new.frames (picture_in day))
       (with_number (free_number day.items) source new)
 
-  item_of_part : (new : NewItem) (o : Option Source) → AreFoundAlike (one_source o) seen part
+  item_of_part : (new : NewItem) (o : Option Source) → AreFoundAlike (one_source o) day.items seen part
       → item_of day plan part new o ≡ item_of day plan seen new o
   item_of_part new None same = refl
   item_of_part new (Some Black) same = refl
@@ -76,7 +83,7 @@ module _ (plan : PlanRow) (day : Day) (seen part : SourcesSeen) where
   item_of_part new (Some (LentClip owner n)) same =
       ap (λ row. unless (row_fault plan day.number new row) (rest_of new (LentClip owner n))) same
 
-  item_for_part : (new : NewItem) → AreFoundAlike (one_source new.src) seen part
+  item_for_part : (new : NewItem) → AreFoundAlike (one_source new.src) day.items seen part
       → item_for day plan part new ≡ item_for day plan seen new
   unfolding item_for item_in
   item_for_part new same =
@@ -87,14 +94,14 @@ module _ (plan : PlanRow) (day : Day) (seen part : SourcesSeen) where
       (item_of_part new new.src same)
 
   item_said_part : (frames mix : ℕ) (source : List ℕ) (at first : Result ℕ Refusal)
-      → AreFoundAlike (one_source (source_of_reel source)) seen part
+      → AreFoundAlike (one_source (source_of_reel source)) day.items seen part
       → item_of_said day plan part (item_at plan frames mix source at first)
       ≡ item_of_said day plan seen (item_at plan frames mix source at first)
   item_said_part frames mix source (Err e) first same = refl
   item_said_part frames mix source (Ok at) (Err e) same = refl
   item_said_part frames mix source (Ok at) (Ok first) same = item_for_part _ same
 
-  pub day_decision-part : (q : DayCommand) → AreFoundAlike (sources_asked q) seen part
+  pub day_decision-part : (q : DayCommand) → AreFoundAlike (sources_asked q) day.items seen part
       → day_decision plan day part q ≡ day_decision plan day seen q
   unfolding day_decision
   day_decision-part days.Open same = refl
@@ -103,9 +110,11 @@ module _ (plan : PlanRow) (day : Day) (seen part : SourcesSeen) where
   day_decision-part (days.RemoveItem n) same = refl
   day_decision-part (days.Revise said) same = ap (λ s. day_decision plan day s (days.Revise said)) same
   day_decision-part (days.Import list ignore) same = ap (λ s. day_decision plan day s (days.Import list ignore)) same
-  day_decision-part days.Seal same = ap (λ s. day_decision plan day s days.Seal) same
+  day_decision-part days.Seal same =
+      ap (answered (λ n. (replies.Day n, OnDay (changed_day day (record day { state = Sealed })))))
+      (sealed_alike plan seen part day same)
   day_decision-part days.WritePlan same = refl
-  day_decision-part days.ExportList same = ap (λ s. day_decision plan day s days.ExportList) same
+  day_decision-part days.ExportList same = ap written (exported_alike plan seen part day same)
 
 -- A table that is written is what is decided of the command that asks for it.
 pub table_decided : (table : Table) (text : List ℕ) (view : Option View) → true ≡ is_some view
@@ -114,14 +123,6 @@ pub table_decided : (table : Table) (text : List ℕ) (view : Option View) → t
 unfolding decision
 table_decided table text None there written = cc
 table_decided table text (Some v) there written = ap (λ t. Some (replies.Table t, Nothing)) written
-
-passes : {R : Type 0} (p : R → Bool) (rs : List R) (r : R) → find p rs ≡ Some r → p r ≡ true
-passes p [] r is = absurd (cc)
-passes p (s ∷ ss) r is =
-    elim (p s) as (λ b. p s ≡ b → (if b then Some s else find p ss) ≡ Some r → p r ≡ true) [
-      | true ↦ λ here e. let same : s ≡ r = cc in subst (λ x. p x ≡ true) same here
-      | false ↦ λ other e. passes p ss r e
-    ] refl is
 
 -- just what was found is found again
 clip_again : (n : ℕ) (clips : List Clip) (o : Option Clip) → find (λ k. k.n == n) clips ≡ o
@@ -146,13 +147,15 @@ found_again clips grants (LentClip owner n) =
     ap of_grant (grant_again owner n grants (find (λ g. g.owner == owner && g.offer.n == n) grants) refl)
 
 -- what is asked for is found in the part as among all that are seen
-found_alike : (asked : SourcesAsked) (clips part_clips : List Clip) (grants part_grants : List Grant)
-    → AreSourceAnswers asked clips grants part_clips part_grants
-    → AreFoundAlike asked (seen_of clips grants) (seen_of part_clips part_grants)
-found_alike asking.Nothing clips part_clips grants part_grants are = tt
-found_alike (asking.One source) clips part_clips grants part_grants are =
+found_alike : (asked : SourcesAsked) (items : List Item) (clips part_clips : List Clip)
+    (grants part_grants : List Grant)
+    → AreSourceAnswers asked items clips grants part_clips part_grants
+    → AreFoundAlike asked items (seen_of clips grants) (seen_of part_clips part_grants)
+found_alike asking.Nothing items clips part_clips grants part_grants are = tt
+found_alike (asking.One source) items clips part_clips grants part_grants are =
     (λ i. found (seen_of (are.0 i) (are.1 i)) source) ∙ found_again clips grants source
-found_alike asking.All clips part_clips grants part_grants are = λ i. seen_of (are.0 i) (are.1 i)
+found_alike asking.OfItems items clips part_clips grants part_grants are = are.named
+found_alike asking.All items clips part_clips grants part_grants are = λ i. seen_of (are.0 i) (are.1 i)
 
 -- a day that isn't among those that are seen
 pub not_there_is : (view : View) (n number : ℕ) (plan : PlanRow) (day : Day) → number ≡ n → plan ≡ view.own.plan
@@ -166,7 +169,8 @@ not_there_is view n number plan day same its made none =
 pub asked_of_part : (view : View) (part : Part) (n : ℕ) (q : DayCommand) (day : Day) → numbers_in_range n q ≡ true
     → part.day ≡ Some day → part.plan ≡ (seen_in view).own.plan
     → IsDayAnswer (Some n) (seen_in view).own.plan (seen_in view).days part.day
-    → AreSourceAnswers (sources_asked q) view.own.clips view.lent part.sources.clips.items part.sources.grants.items
+    → AreSourceAnswers (sources_asked q) (items_asked None part.day) view.own.clips view.lent part.sources.clips.items
+    part.sources.grants.items
     → day_decision part.plan day (seen_of part.sources.clips.items part.sources.grants.items) q
     ≡ decision (seen_in view) (commands.Day n q)
 unfolding decision
@@ -174,7 +178,11 @@ asked_of_part view part n q day asked there plan is sources =
     let same : day ≡ day_at view.own.plan (seen_in view).days n = some_same (sym there ∙ is) in
     day_decision-part part.plan day (sources_seen (seen_in view))
     (seen_of part.sources.clips.items part.sources.grants.items) q
-    (found_alike (sources_asked q) view.own.clips part.sources.clips.items view.lent part.sources.grants.items sources)
+    (found_alike (sources_asked q) day.items view.own.clips part.sources.clips.items view.lent
+    part.sources.grants.items
+    (subst
+    (λ o. AreSourceAnswers (sources_asked q) (items_in o) view.own.clips view.lent part.sources.clips.items
+    part.sources.grants.items) there sources))
     ∙ ap (λ p. day_decision p day (sources_seen (seen_in view)) q) plan
     ∙ ap (λ d. day_decision view.own.plan d (sources_seen (seen_in view)) q) same
     ∙ ap

@@ -6,8 +6,7 @@ use Rattle.vault_core.specs.declared.clip.Clip.{Clip}
 use Rattle.grant_core.specs.declared.grant.Grant.{Grant}
 use Rattle.playlist_core.specs.declared.source.Source.TheVariants.{Own as OwnClip, Lent as LentClip}
 use Rattle.playlist_core.specs.Source.{of_clip, of_grant}
-use Rattle.channel_view_model.specs.declared.need.SourcesAsked.TheVariants.{One}
-use Rattle.channel_view_model.specs.Need.{AreSourceAnswers, clips_of, grants_of}
+use Rattle.channel_view_model.specs.Need.{IsSourceAnswer, clips_of, grants_of}
 
 -- what one source names, found by itself
 just_clip : (o : Option Clip) → cons_option o [] ≡ clips_of (of_clip o)
@@ -29,14 +28,14 @@ no_clip (Some g) = refl
 module _ (clips : List Clip) (grants : List Grant) where
   pub status_answer : (n : ℕ) (row : Option Clip) (ks : List Clip) (gs : List Grant) → row ≡ find (λ k. k.n == n) clips
       → ks ≡ cons_option row [] → gs ≡ []
-      → AreSourceAnswers (One (OwnClip n)) clips grants ks gs
+      → IsSourceAnswer (OwnClip n) clips grants ks gs
   status_answer n row ks gs is some none =
       let here = find (λ k. k.n == n) clips in
       (some ∙ ap (λ (o : Option Clip). cons_option o []) is ∙ just_clip here, none ∙ no_grant here)
 
   pub lent_answer : (owner n : ℕ) (row : Option Grant) (ks : List Clip) (gs : List Grant)
       → row ≡ find (λ g. g.owner == owner && g.offer.n == n) grants → ks ≡ [] → gs ≡ cons_option row []
-      → AreSourceAnswers (One (LentClip owner n)) clips grants ks gs
+      → IsSourceAnswer (LentClip owner n) clips grants ks gs
   lent_answer owner n row ks gs is none some =
       let here = find (λ g. g.owner == owner && g.offer.n == n) grants in
       (none ∙ no_clip here, some ∙ ap (λ (o : Option Grant). cons_option o []) is ∙ just_grant here)

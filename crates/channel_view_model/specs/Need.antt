@@ -1,7 +1,8 @@
 -- What a command needs of the rows that its channel sees, and the part of them that holds this.
 use Rattle.std.specs.Prelude.{◌≡◌, ℕ, List, [], ◌∷◌, Bool, true, false, Option, Some, None, ◌⊎◌}
 use Rattle.std.specs.Option.{option_map}
-use Rattle.std.proofs.Common.{inl, inr}
+use Rattle.std.specs.List.{All as Each, Contains}
+use Rattle.std.proofs.Common.{Bor, inl, inr}
 use Rattle.vault_core.specs.declared.clip.Clip.{Clip}
 use Rattle.grant_core.specs.declared.grant.Grant.{Grant}
 use Rattle.std.specs.Bool.{⊤}
@@ -17,12 +18,13 @@ use Rattle.channel_view_model.specs.declared.command.VaultCommand.TheVariants as
 use Rattle.grant_core.specs.Asked.{no_offers_asked, AreOfferAnswers, clips_asked_for_offers, offers_asked}
 use Rattle.playlist_core.specs.declared.source.Source.{Source}
 use Rattle.playlist_core.specs.Source.{found, seen_of, source_of_reel}
+use Rattle.playlist_core.specs.declared.item.Item.{Item}
 use Rattle.playlist_core.specs.Day.{Day}
 use Rattle.vault_core.specs.declared.asked_tapes.TapesAsked.{TapesAsked}
 use Rattle.vault_core.specs.declared.asked_clips.ClipsAsked.{ClipsAsked}
 use Rattle.grant_core.specs.declared.asked_offers.OffersAsked.{OffersAsked}
 use Rattle.channel_view_model.specs.declared.need.SourcesAsked.{SourcesAsked}
-use Rattle.channel_view_model.specs.declared.need.SourcesAsked.TheVariants.{Nothing, One, All}
+use Rattle.channel_view_model.specs.declared.need.SourcesAsked.TheVariants.{Nothing, One, OfItems, All}
 use Rattle.channel_view_model.specs.declared.day_command.DayCommand.{DayCommand}
 use Rattle.channel_view_model.specs.declared.day_command.DayCommand.TheVariants as days
 use Rattle.asrun_match.specs.declared.day.DayAsRun.{DayAsRun}
@@ -36,7 +38,7 @@ use Rattle.channel_view_model.specs.Seen.{seen_in}
 -- questions of own rows alone
 abbrev pub of_own : TapesAsked → ClipsAsked → OffersAsked → Need
 of_own tapes clips offers =
-    record { tapes = tapes; clips = clips; offers = offers; day = None; aired = None; sources = Nothing }
+    record { tapes = tapes; clips = clips; offers = offers; day = None; items = None; aired = None; sources = Nothing }
 
 -- what each command on own rows asks
 abbrev pub own_need : VaultCommand → Need
@@ -63,9 +65,9 @@ sources_asked (days.AddItem at frames source_in mix source) = one_source (source
 sources_asked (days.RemoveItem n) = Nothing
 sources_asked (days.Revise said) = All
 sources_asked (days.Import list ignore) = All
-sources_asked days.Seal = All
+sources_asked days.Seal = OfItems
 sources_asked days.WritePlan = Nothing
-sources_asked days.ExportList = All
+sources_asked days.ExportList = OfItems
 
 abbrev pub need_of : Command → Need
 need_of (commands.Vault q) = own_need q
@@ -75,6 +77,7 @@ need_of (commands.Day n q) =
       clips = no_clips_asked;
       offers = no_offers_asked;
       day = Some n;
+      items = None;
       aired = None;
       sources = sources_asked q;
     }
@@ -84,6 +87,7 @@ need_of (commands.Airing n q) =
       clips = no_clips_asked;
       offers = no_offers_asked;
       day = Some n;
+      items = None;
       aired = Some n;
       sources = Nothing;
     }
@@ -109,15 +113,39 @@ IsDayAnswer asked plan days day = day ≡ option_map (day_at plan days) asked
 abbrev pub IsAiringAnswer : Option ℕ → PlanRow → Questions DayAsRun → Option Airing → Type 0
 IsAiringAnswer asked plan aired airing = airing ≡ option_map (airing_at plan aired) asked
 
--- of these clips and lent clips none, just the one that the source names, if it is there, or all
-abbrev pub AreSourceAnswers : SourcesAsked → List Clip → List Grant → List Clip → List Grant → Type 0
-AreSourceAnswers Nothing clips grants part_clips part_grants = (part_clips ≡ []) × (part_grants ≡ [])
-AreSourceAnswers (One source) clips grants part_clips part_grants =
+-- the items at hand, else those of the day that is asked for
+abbrev pub items_in : Option Day → List Item
+items_in None = []
+items_in (Some day) = day.items
+
+abbrev pub items_asked : Option (Bor (List Item)) → Option Day → List Item
+items_asked None day = items_in day
+items_asked (Some items) day = items.now
+
+-- just the clip or the lent clip that the source names, if it is there
+abbrev pub IsSourceAnswer : Source → List Clip → List Grant → List Clip → List Grant → Type 0
+IsSourceAnswer source clips grants part_clips part_grants =
     (part_clips ≡ clips_of (found (seen_of clips grants) source))
     × (part_grants ≡ grants_of (found (seen_of clips grants) source))
-AreSourceAnswers All clips grants part_clips part_grants = (part_clips ≡ clips) × (part_grants ≡ grants)
 
--- The part holds the answers of what the channel sees to the questions of the need, and no row beside them.
+-- What each of the items names is found in the part as among all, and each row of the part is one of all.
+pub record NamesAlike (items : List Item) (clips : List Clip) (grants : List Grant) (part_clips : List Clip)
+    (part_grants : List Grant) : Type 0 where
+  pub named : Each (λ i. found (seen_of part_clips part_grants) i.src ≡ found (seen_of clips grants) i.src) items
+  pub own : Each (Contains clips) part_clips
+  pub lent : Each (Contains grants) part_grants
+
+-- of these clips and lent clips none, just the one that the source names, what these items name, or all
+abbrev pub AreSourceAnswers : SourcesAsked → List Item → List Clip → List Grant → List Clip → List Grant → Type 0
+AreSourceAnswers Nothing items clips grants part_clips part_grants = (part_clips ≡ []) × (part_grants ≡ [])
+AreSourceAnswers (One source) items clips grants part_clips part_grants =
+    IsSourceAnswer source clips grants part_clips part_grants
+AreSourceAnswers OfItems items clips grants part_clips part_grants =
+    NamesAlike items clips grants part_clips part_grants
+AreSourceAnswers All items clips grants part_clips part_grants = (part_clips ≡ clips) × (part_grants ≡ grants)
+
+-- The part holds the answers of what the channel sees to the questions of the need, and no row beside them; of clips
+-- and lent clips that items are to name, none beside those that are seen.
 pub record IsPartOf (need : Need) (view : View) (part : Part) : Type 0 where
   pub plan : part.plan ≡ (seen_in view).own.plan
   pub tapes : AreTapeAnswers need.tapes (seen_in view).own.tapes part.tapes
@@ -125,8 +153,8 @@ pub record IsPartOf (need : Need) (view : View) (part : Part) : Type 0 where
   pub offers : AreOfferAnswers need.offers (seen_in view).own.offers part.offers
   pub day : IsDayAnswer need.day (seen_in view).own.plan (seen_in view).days part.day
   pub aired : IsAiringAnswer need.aired (seen_in view).own.plan (seen_in view).aired part.aired
-  pub sources : AreSourceAnswers need.sources view.own.clips view.lent part.sources.clips.items
-      part.sources.grants.items
+  pub sources : AreSourceAnswers need.sources (items_asked need.items part.day) view.own.clips view.lent
+      part.sources.clips.items part.sources.grants.items
 
 -- a part of what the channel sees, or none of either
 abbrev pub IsFetched : Need → Option View → Option Part → Type 0

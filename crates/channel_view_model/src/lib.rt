@@ -33,7 +33,7 @@ pub use centre::CentreRows;
 pub use command::{AiringCommand, Change, Command, Outcome, Reply, VaultChange, VaultCommand};
 pub use day_command::{DayCommand, DayNumber, Mix, Upload};
 pub use days::{Days, days_alone};
-pub use need::{Need, SourcesAsked};
+pub use need::{FEW_ITEMS, Need, SourcesAsked, items_asked};
 pub use part::Part;
 pub use revision::{ItemRefusal, Revised, Revision, SaidItem};
 pub use store::RowStore;

@@ -1,6 +1,9 @@
 //! What a command needs of the rows that its channel sees.
+//!
+//! A decision is given the rows that answer and the command alone. So a text of the command is read here, to ask, and once
+//! more where it is decided.
 ghost use Rattle.std.specs.Prelude.{◌≡◌, true};
-ghost use Rattle.channel_view_model.specs.Need.{own_need, need_of, asks_a_part, sources_asked};
+ghost use Rattle.channel_view_model.specs.Need.{own_need, need_of, asks_a_part, items_asked, sources_asked};
 ghost use Rattle.channel_view_model.specs.Need.{of_own as own_alone};
 ghost use Rattle.vault_core.specs.Asked.{no_clips_asked, nothing_asked};
 ghost use Rattle.grant_core.specs.Asked.{no_offers_asked};
@@ -8,8 +11,12 @@ ghost use Rattle.grant_core.specs.Asked.{no_offers_asked};
 use crate::command::{Command, VaultCommand};
 use crate::day_command::{DayCommand, DayNumber};
 use grant_core::OffersAsked;
-use playlist_core::Source;
+use playlist_core::{DayPlan, Item, Source};
 use vault_core::{ClipsAsked, TapesAsked};
+
+/// The most items that a store answers one by one. To look a row up by its number costs as much as to read three in
+/// order, so these cost at most what 200 rows do; for more items it reads all rows.
+pub const FEW_ITEMS: usize = 64;
 
 /// Which of the clips and the lent clips that items may show a command asks for.
 #[derive(Clone, Copy, Debug, PartialEq, Eq)]
@@ -17,12 +24,14 @@ pub enum SourcesAsked {
     Nothing,
     /// What this source names.
     One(Source),
+    /// What each item of the day names. More of what is seen may be answered, up to all.
+    OfItems,
     All,
 }
 
 /// The questions that a command asks of the rows that its channel sees, beside its row of the plan.
 #[derive(Clone, Copy, Debug)]
-pub struct Need {
+pub struct Need<'a> {
     /// Of its tapes.
     pub tapes: TapesAsked,
     /// Of its clips.
@@ -31,15 +40,17 @@ pub struct Need {
     pub offers: OffersAsked,
     /// The day with this number.
     pub day: Option<DayNumber>,
+    /// The items of the day, where they are at hand and the day isn't asked for.
+    pub items: Option<&'a [Item]>,
     /// What was aired of the day with this number.
     pub aired: Option<DayNumber>,
     /// Of the clips and the lent clips that items may show.
     pub sources: SourcesAsked,
 }
 
-impl Need {
+impl<'a> Need<'a> {
     /// What this command asks, which no table is. Its reply and its change rest on the answers alone.
-    pub fn of(command: &Command) -> Need
+    pub fn of(command: &Command) -> Need<'a>
         requires { asks_a_part command.now ≡ true }
         ensures { result ≡ need_of command.now }
     {
@@ -61,7 +72,7 @@ impl Need {
     }
 }
 
-fn need_of_own(command: &VaultCommand) -> Need
+fn need_of_own<'a>(command: &VaultCommand) -> Need<'a>
     ensures { result ≡ own_need command.now }
 {
     match command {
@@ -84,7 +95,7 @@ fn need_of_own(command: &VaultCommand) -> Need
 }
 
 // No question.
-fn nothing() -> Need
+fn nothing<'a>() -> Need<'a>
     ensures { result ≡ own_alone nothing_asked no_clips_asked no_offers_asked }
 {
     of_own(
@@ -95,7 +106,7 @@ fn nothing() -> Need
 }
 
 // Questions of own rows alone.
-fn of_own(tapes: TapesAsked, clips: ClipsAsked, offers: OffersAsked) -> Need
+fn of_own<'a>(tapes: TapesAsked, clips: ClipsAsked, offers: OffersAsked) -> Need<'a>
     ensures { result ≡ own_alone tapes clips offers }
 {
     Need {
@@ -103,6 +114,7 @@ fn of_own(tapes: TapesAsked, clips: ClipsAsked, offers: OffersAsked) -> Need
         clips,
         offers,
         day: None,
+        items: None,
         aired: None,
         sources: SourcesAsked::Nothing,
     }
@@ -116,12 +128,21 @@ fn sources_asked(command: &DayCommand) -> SourcesAsked
             Some(source) => SourcesAsked::One(source),
             None => SourcesAsked::Nothing,
         },
-        DayCommand::Revise { .. }
-        | DayCommand::Import { .. }
-        | DayCommand::Seal
-        | DayCommand::ExportList => SourcesAsked::All,
+        DayCommand::Revise { .. } | DayCommand::Import { .. } => SourcesAsked::All,
+        DayCommand::Seal | DayCommand::ExportList => SourcesAsked::OfItems,
         DayCommand::Open | DayCommand::RemoveItem { .. } | DayCommand::WritePlan => {
             SourcesAsked::Nothing
         }
+    }
+}
+
+/// The items whose sources are asked for: these at hand, else those of the day that was asked for.
+pub fn items_asked<'a>(items: Option<&'a [Item]>, day: &'a Option<DayPlan>) -> &'a [Item]
+    ensures { result.now ≡ items_asked items.entry day.now }
+{
+    match (items, day) {
+        (Some(items), _) => items,
+        (None, Some(day)) => day.items(),
+        (None, None) => &[],
     }
 }

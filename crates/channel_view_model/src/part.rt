@@ -5,7 +5,8 @@ use grant_core::OffersFound;
 use playlist_core::{DayPlan, SourcesFound};
 use vault_core::{ClipsFound, TapesFound};
 
-/// A channel's row of the plan, and just the rows and counts that answer a [`Need`](crate::Need).
+/// A channel's row of the plan, and just the rows and counts that answer a [`Need`](crate::Need); of the clips and the
+/// lent clips that items name, more may be there.
 #[derive(Debug, Drop)]
 pub struct Part {
     pub plan: PlanRow,

@@ -45,7 +45,7 @@ pub trait RowStore {
         ensures sets { leaves_sets self.old → leaves_sets self.new };
 
     /// Just the part of what the channel sees that a command needs, or `None` where it isn't in the plan.
-    fn fetch(&mut self, channel: u16, need: &Need) -> Result<Option<Part>, Unavailable>
+    fn fetch(&mut self, channel: u16, need: &Need<'_>) -> Result<Option<Part>, Unavailable>
         ensures clean { is_clean self.new → is_clean self.old }
         ensures part { WhileClean (is_clean self.new) (stands_for self.old)
             (λ rows. IfOk result (IsFetched need.now (view_of channel rows))) }

@@ -1,8 +1,9 @@
 //! What one channel sees.
-ghost use Rattle.std.specs.Prelude.{◌≡◌, ◌==◌, find, IfOk};
+ghost use Rattle.std.specs.Prelude.{◌≡◌, ◌==◌, find, IfOk, List};
 ghost use Rattle.std.specs.Option.{option_map};
 ghost use Rattle.vault_core.specs.Questions.{listed};
 ghost use Rattle.playlist_core.specs.Source.{row_seen};
+ghost use Rattle.playlist_core.specs.declared.item.Item.{Item};
 ghost use Rattle.channel_view_model.specs.Airings.{no_airing};
 ghost use Rattle.channel_view_model.specs.Need.{AreSourceAnswers, IsAiringAnswer, IsDayAnswer, IsPartOf, clips_of};
 ghost use Rattle.channel_view_model.specs.Need.{grants_of};
@@ -34,7 +35,7 @@ pub struct View {
 
 impl View {
     /// The part of it that a command needs.
-    pub fn part(&self, alloc: Global, need: &Need) -> Result<Part, Unavailable>
+    pub fn part(&self, alloc: Global, need: &Need<'_>) -> Result<Part, Unavailable>
         ensures { IfOk result (IsPartOf need.now self.now) }
     {
         Ok(Part {
@@ -79,10 +80,10 @@ impl View {
         }
     }
 
-    // The clips and the lent clips that are asked for.
+    // The clips and the lent clips that are asked for, whatever the items are: all, where these name some.
     fn sources(&self, alloc: Global, asked: SourcesAsked) -> Result<SourcesFound, Unavailable>
-        ensures { IfOk result (λ found. AreSourceAnswers asked self.now.own.clips self.now.lent found.clips.items
-            found.grants.items) }
+        ensures { IfOk result (λ found. (items : List Item) → AreSourceAnswers asked items self.now.own.clips
+            self.now.lent found.clips.items found.grants.items) }
     {
         match asked {
             SourcesAsked::Nothing => Ok(SourcesFound::nothing(alloc)),
@@ -90,7 +91,7 @@ impl View {
                 let rows = SourceRows::of(self.own.clips(), self.lent.grants());
                 single_source(alloc, rows.find(&source))
             }
-            SourcesAsked::All => Ok(SourcesFound {
+            SourcesAsked::OfItems | SourcesAsked::All => Ok(SourcesFound {
                 clips: Vec::from_slice(alloc, self.own.clips())?,
                 grants: Vec::from_slice(alloc, self.lent.grants())?,
             }),

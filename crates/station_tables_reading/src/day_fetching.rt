@@ -3,21 +3,21 @@ ghost use Rattle.std.specs.Prelude.{◌≡◌, ◌==◌, ◌&&◌, [], Some, fin
 ghost use Rattle.std.specs.List.{cons_option};
 ghost use Rattle.std.specs.Option.{option_map};
 ghost use Rattle.playlist_core.specs.declared.source.Source.TheVariants as Source;
-ghost use Rattle.channel_view_model.specs.declared.need.SourcesAsked.TheVariants as SourcesAsked;
 ghost use Rattle.channel_view_model.specs.Tables.{of_channel, rows_of};
 ghost use Rattle.channel_view_model.specs.Seen.{grants_to};
 ghost use Rattle.channel_view_model.specs.Centre.{plan_of};
 ghost use Rattle.channel_view_model.specs.Days.{day_at};
-ghost use Rattle.channel_view_model.specs.Need.{AreSourceAnswers, IsDayAnswer};
+ghost use Rattle.channel_view_model.specs.Need.{AreSourceAnswers, IsDayAnswer, IsSourceAnswer, NamesAlike};
+ghost use Rattle.channel_view_model.specs.Need.{items_asked};
 ghost use Rattle.station_tables_records.specs.Inside.{inside, Reads, Looks};
 ghost use Rattle.station_tables_statements.specs.Calls.{set_in, WhileCleanCentre};
 ghost use Rattle.station_tables_reading.specs.Lent.{lent_to};
 
 use crate::day_loading::load_days;
 use channel_plan::PlanRow;
-use channel_view_model::{DayNumber, Need, SourcesAsked};
+use channel_view_model::{DayNumber, FEW_ITEMS, Need, SourcesAsked, items_asked};
 use grant_core::Grant;
-use playlist_core::{DayPlan, Source, SourcesFound};
+use playlist_core::{DayPlan, Item, Source, SourcesFound};
 use sqlite::{Alter, Transaction};
 use station_tables_statements::{load_lent, load_rows, row_numbered};
 use std::alloc::Global;
@@ -162,7 +162,7 @@ fn source_found<S: Alter>(
 ) -> Result<SourcesFound, Unavailable>
     ensures looks { Looks S.Store tx.old tx.new result }
     ensures found { WhileCleanCentre S.Store tx.old tx.new (IfOk result (λ found.
-        AreSourceAnswers (SourcesAsked.One source)
+        IsSourceAnswer source
         (rows_of channel (set_in (inside S.Store tx.old)).clips)
         (grants_to channel (set_in (inside S.Store tx.old)).offers) found.clips.items found.grants.items)) }
 {
@@ -175,21 +175,63 @@ fn source_found<S: Alter>(
     }
 }
 
-// The clips and the lent clips that are asked for.
+// What each of these items names, one after another.
+fn sources_named<S: Alter>(
+    alloc: Global,
+    tx: &mut Transaction<'_, S>,
+    channel: u16,
+    items: &[Item],
+) -> Result<SourcesFound, Unavailable>
+    ensures looks { Looks S.Store tx.old tx.new result }
+    ensures found { WhileCleanCentre S.Store tx.old tx.new (IfOk result (λ found. NamesAlike items.now
+        (rows_of channel (set_in (inside S.Store tx.old)).clips)
+        (grants_to channel (set_in (inside S.Store tx.old)).offers) found.clips.items found.grants.items)) }
+{
+    let mut found = SourcesFound::nothing(alloc);
+    for item in items {
+        let named = source_found(alloc, tx, channel, item.src)?;
+        found.clips.extend_from_slice(&named.clips)?;
+        found.grants.extend_from_slice(&named.grants)?;
+    }
+    Ok(found)
+}
+
+// What these items name; of many items, all.
+fn sources_of<S: Alter>(
+    alloc: Global,
+    tx: &mut Transaction<'_, S>,
+    channel: u16,
+    items: &[Item],
+) -> Result<SourcesFound, Unavailable>
+    ensures looks { Looks S.Store tx.old tx.new result }
+    ensures found { WhileCleanCentre S.Store tx.old tx.new (IfOk result (λ found. NamesAlike items.now
+        (rows_of channel (set_in (inside S.Store tx.old)).clips)
+        (grants_to channel (set_in (inside S.Store tx.old)).offers) found.clips.items found.grants.items)) }
+{
+    if items.len() > FEW_ITEMS {
+        all_sources(alloc, tx, channel)
+    } else {
+        sources_named(alloc, tx, channel, items)
+    }
+}
+
+// The clips and the lent clips that are asked for, of these items.
 fn sources_found<S: Alter>(
     alloc: Global,
     tx: &mut Transaction<'_, S>,
     channel: u16,
     asked: SourcesAsked,
+    items: &[Item],
 ) -> Result<SourcesFound, Unavailable>
     ensures looks { Looks S.Store tx.old tx.new result }
-    ensures found { WhileCleanCentre S.Store tx.old tx.new (IfOk result (λ found. AreSourceAnswers asked
+    ensures found { WhileCleanCentre S.Store tx.old tx.new (IfOk result (λ found. AreSourceAnswers asked items.now
         (rows_of channel (set_in (inside S.Store tx.old)).clips)
         (grants_to channel (set_in (inside S.Store tx.old)).offers) found.clips.items found.grants.items)) }
 {
     match asked {
         SourcesAsked::Nothing => Ok(SourcesFound::nothing(alloc)),
         SourcesAsked::One(source) => source_found(alloc, tx, channel, source),
+        SourcesAsked::OfItems => sources_of(alloc, tx, channel, items),
         SourcesAsked::All => all_sources(alloc, tx, channel),
     }
 }
@@ -199,7 +241,7 @@ pub(crate) fn find_air<S: Alter>(
     alloc: Global,
     tx: &mut Transaction<'_, S>,
     plan: &PlanRow,
-    need: &Need,
+    need: &Need<'_>,
 ) -> Result<DayAndSources, Unavailable>
     ensures looks { Looks S.Store tx.old tx.new result }
     ensures day { WhileCleanCentre S.Store tx.old tx.new
@@ -207,11 +249,12 @@ pub(crate) fn find_air<S: Alter>(
         (λ air. IsDayAnswer need.now.day plan.now
         (of_channel plan.now.ch (set_in (inside S.Store tx.old)).days) air.day)) }
     ensures sources { WhileCleanCentre S.Store tx.old tx.new (IfOk result (λ air. AreSourceAnswers need.now.sources
-        (rows_of plan.now.ch (set_in (inside S.Store tx.old)).clips)
+        (items_asked need.now.items air.day) (rows_of plan.now.ch (set_in (inside S.Store tx.old)).clips)
         (grants_to plan.now.ch (set_in (inside S.Store tx.old)).offers)
         air.sources.clips.items air.sources.grants.items)) }
 {
     let day = day_asked(alloc, tx, plan, &need.day)?;
-    let sources = sources_found(alloc, tx, plan.ch, need.sources)?;
+    let items = items_asked(need.items, &day);
+    let sources = sources_found(alloc, tx, plan.ch, need.sources, items)?;
     Ok(DayAndSources { day, sources })
 }

@@ -23,7 +23,7 @@ pub fn read_part<S: Alter>(
     tx: &mut Transaction<'_, S>,
     channel: u16,
     plan: Option<PlanRow>,
-    need: &Need,
+    need: &Need<'_>,
 ) -> Result<Option<Part>, Unavailable>
     ensures reads { Reads S.Store tx.old tx.new result }
     ensures part { WhileCleanCentre S.Store tx.old tx.new (OwnsRowsNow (inside S.Store tx.old) →

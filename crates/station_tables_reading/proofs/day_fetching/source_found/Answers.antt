@@ -3,10 +3,9 @@ use Rattle.std.proofs.Common.{◌∙◌, [], ◌&&◌, refl, sym, ap, ap₂, sub
 use Rattle.std.specs.List.{cons_option}
 use Rattle.std.proofs.lemmas.Result.{IfOk-weaker}
 use Rattle.std.specs.Prelude.{◌==◌, find}
-use Rattle.channel_view_model.specs.declared.need.SourcesAsked.TheVariants.{One}
 use Rattle.channel_view_model.specs.Tables.{rows_of}
 use Rattle.channel_view_model.specs.Seen.{grants_to}
-use Rattle.channel_view_model.specs.Need.{AreSourceAnswers}
+use Rattle.channel_view_model.specs.Need.{IsSourceAnswer}
 use Rattle.channel_view_model.proofs.TableLemmas.{picked_is}
 use Rattle.channel_view_model.proofs.SourceLemmas.{status_answer, lent_answer}
 use Rattle.station_tables_records.specs.Inside.{inside}
@@ -23,7 +22,7 @@ returns-in-Own-clause-found g c = λ centre clean.
     ∙ ap (λ n. find (λ k. k.n == n) clips) c.get.ensures in
     IfOk-weaker c.clip_source.result _ _
     (λ found is.
-    subst (λ source. AreSourceAnswers (One source) clips grants found.clips.items found.grants.items) (sym c.in-Own.is)
+    subst (λ source. IsSourceAnswer source clips grants found.clips.items found.grants.items) (sym c.in-Own.is)
     (status_answer clips grants c.in-Own.number (find (λ k. k.n == c.in-Own.number) clips) found.clips.items
     found.grants.items refl (is.0 ∙ ap (λ o. cons_option o []) first) is.1))
     (c.clip_source.ensures.found centre clean)
@@ -36,7 +35,7 @@ returns-in-Lent-clause-found g c = λ centre clean.
     let grants = grants_to ch rows.offers in
     IfOk-weaker c.lent_source.result _ _
     (λ found is.
-    subst (λ source. AreSourceAnswers (One source) clips grants found.clips.items found.grants.items) (sym c.in-Lent.is)
+    subst (λ source. IsSourceAnswer source clips grants found.clips.items found.grants.items) (sym c.in-Lent.is)
     (lent_answer clips grants c.in-Lent.owner c.in-Lent.number
     (find (λ g. g.owner == c.in-Lent.owner && g.offer.n == c.in-Lent.number) grants) found.clips.items
     found.grants.items refl is.0

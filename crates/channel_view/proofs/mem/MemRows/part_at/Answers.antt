@@ -6,9 +6,10 @@ use Rattle.vault_core.specs.Questions.{listed}
 use Rattle.vault_core.specs.Rules.{is_numbered_from}
 use Rattle.vault_core.specs.Asked.{AreTapeAnswers, AreClipAnswers}
 use Rattle.grant_core.specs.Asked.{AreOfferAnswers}
-use Rattle.channel_view_model.specs.Tables.{rows_alone}
+use Rattle.channel_view_model.specs.Tables.{rows_alone, rows_of}
 use Rattle.channel_view_model.specs.Centre.{IsInOrder}
-use Rattle.channel_view_model.specs.Need.{IsDayAnswer, IsAiringAnswer}
+use Rattle.channel_view_model.specs.Need.{AreSourceAnswers, IsDayAnswer, IsAiringAnswer}
+use Rattle.channel_view_model.specs.Seen.{grants_to}
 use Rattle.channel_view_rules.proofs.BisectLemmas.{rises}
 use Rattle.channel_view.proofs.mem.MemRows.part_at.Goals as goal
 
@@ -71,11 +72,16 @@ returns c = λ rules known.
       offers = subst (λ os. AreOfferAnswers c.args.need.now.offers (listed os) c.offers_found.result) offers
           (c.offers_found.ensures (ap (is_numbered_from (λ o. o.n) 1) offers ∙ kept.offers.numbers));
       day =
-          subst (λ ds. IsDayAnswer c.args.need.now.day c.args.plan (listed ds) c.in_ok-day_found.field-0) days
-          c.in_ok-day_found.ensures;
+          subst (λ ds. IsDayAnswer c.args.need.now.day c.args.plan (listed ds) c.in_ok-day.day) days
+          c.in_ok-day.ensures;
       aired =
           subst
           (λ as_rows. IsAiringAnswer c.args.need.now.aired c.args.plan (listed as_rows) c.in_ok-airing_found.field-0)
           aired c.in_ok-airing_found.ensures;
-      sources = c.in_ok-sources_at.ensures kept.clips.numbers;
+      sources =
+          subst
+          (λ items. AreSourceAnswers c.args.need.now.sources items (rows_of c.args.channel c.args.self.now.clips)
+          (grants_to c.args.channel c.args.self.now.offers) c.in_ok-sources.sources.clips.items
+          c.in_ok-sources.sources.grants.items) c.items_asked-items.ensures
+          (c.in_ok-sources.ensures kept.clips.numbers);
     }

@@ -2,10 +2,9 @@
 use Rattle.std.proofs.Common.{◌∙◌, ◌&&◌, sym, subst, ap, ap₂}
 use Rattle.std.specs.Prelude.{◌==◌, filter, find}
 use Rattle.vault_core.specs.Rules.{is_numbered_from}
-use Rattle.channel_view_model.specs.declared.need.SourcesAsked.TheVariants.{One}
 use Rattle.channel_view_model.specs.Tables.{rows_alone, rows_of}
 use Rattle.channel_view_model.specs.Seen.{grants_to}
-use Rattle.channel_view_model.specs.Need.{AreSourceAnswers}
+use Rattle.channel_view_model.specs.Need.{IsSourceAnswer}
 use Rattle.channel_view_model.proofs.SourceLemmas.{status_answer, lent_answer}
 use Rattle.channel_view.proofs.DayPlaceLemmas.{grant_among}
 use Rattle.std.specs.List.Sorted.{IsNonDecreasingBy}
@@ -29,7 +28,7 @@ returns-in_ok-just-in-Own c = λ numbered.
     ∙ ap (λ ks. find (λ k. k.n == c.get.result) ks) clips
     ∙ ap (λ n. find (λ k. k.n == n) (rows_of channel rows.clips)) c.get.ensures in
     subst
-    (λ source. AreSourceAnswers (One source) (rows_of channel rows.clips) (grants_to channel rows.offers)
+    (λ source. IsSourceAnswer source (rows_of channel rows.clips) (grants_to channel rows.offers)
     c.in_ok-just-in-Own.field-0.items c.new.result.items) (sym c.in-Own.is)
     (status_answer (rows_of channel rows.clips) (grants_to channel rows.offers) c.in-Own.number c.row_of.result _ _ row
     c.in_ok-just-in-Own.ensures c.new.ensures.items)
@@ -49,7 +48,7 @@ returns-in_ok-just-in-Lent c = λ numbered.
     ∙ ap₂ (λ owner n. find (λ g. g.owner == owner && g.offer.n == n) (grants_to channel rows.offers))
     c.get-in-Lent.ensures c.get-in-Lent-2.ensures in
     subst
-    (λ source. AreSourceAnswers (One source) (rows_of channel rows.clips) (grants_to channel rows.offers)
+    (λ source. IsSourceAnswer source (rows_of channel rows.clips) (grants_to channel rows.offers)
     c.new-in-Lent.result.items c.in_ok-just-in-Lent.field-0.items) (sym c.in-Lent.is)
     (lent_answer (rows_of channel rows.clips) (grants_to channel rows.offers) c.in-Lent.owner c.in-Lent.number
     c.grant_to-grant.result _ _ row c.new-in-Lent.ensures.items c.in_ok-just-in-Lent.ensures)

@@ -20,6 +20,5 @@ returns-in_ok-part-in-Some-clause-part g c = λ clean rows stands.
     × ((rows : Centre) → AreKnown rows c.args.self.now.days.items → HasDay rows channel d))) c.in-Some.is
     c.in_ok-day.ensures in
     subst (IsFetched need (view_of channel rows)) (sym c.with_day.ensures)
-    (part_with rows channel need part c.in-Some.day
-    (subst (λ n. IsFetched n (view_of channel rows) part) c.without_day.ensures fetched) asked.0
+    (part_with rows channel need c.beside_day.result part c.in-Some.day c.beside_day.ensures fetched asked.0
     (asked.1 rows stands.1))

@@ -1,9 +1,9 @@
--- `MemRows::sources_at`: the clips and the lent clips that are asked for.
+-- `MemRows::all_sources`: all of the channel's clips, and all that are lent to it.
 use Rattle.std.proofs.Common.{sym, subst, ap}
 use Rattle.std.specs.List.Sorted.{IsNonDecreasingBy}
 use Rattle.channel_view_model.specs.Centre.{IsInOrder}
 use Rattle.channel_view_rules.proofs.BisectLemmas.{rises}
-use Rattle.channel_view.proofs.mem.MemRows.sources_at.Goals as goal
+use Rattle.channel_view.proofs.mem.MemRows.all_sources.Goals as goal
 
 pub channel_rows-requires : goal.channel_rows-requires
 channel_rows-requires c =
