@@ -1,7 +1,7 @@
 #!/usr/bin/env python3
 """Whether .ci/prove says of a crate of another repository what holds, with a library of one function and a program over it.
 
-Its last line is 'prove: N passed, M failed'. It takes half a minute.
+Its last line is 'prove: N passed, M failed'. It takes a minute or two.
 """
 import os, shutil, subprocess, sys, tempfile
 

@@ -113,11 +113,12 @@ IsDayAnswer asked plan days day = day ≡ option_map (day_at plan days) asked
 abbrev pub IsAiringAnswer : Option ℕ → PlanRow → Questions DayAsRun → Option Airing → Type 0
 IsAiringAnswer asked plan aired airing = airing ≡ option_map (airing_at plan aired) asked
 
--- the items at hand, else those of the day that is asked for
+-- the items of a day; none where no day is asked for
 abbrev pub items_in : Option Day → List Item
 items_in None = []
 items_in (Some day) = day.items
 
+-- the items at hand, else those of the day that is asked for
 abbrev pub items_asked : Option (Bor (List Item)) → Option Day → List Item
 items_asked None day = items_in day
 items_asked (Some items) day = items.now
