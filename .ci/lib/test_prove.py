@@ -3,7 +3,7 @@
 
 Its last line is 'prove: N passed, M failed'. It takes a minute or two.
 """
-import os, shutil, subprocess, sys, tempfile
+import os, shutil, signal, subprocess, sys, tempfile, time
 
 HERE = os.path.dirname(os.path.dirname(os.path.abspath(__file__)))
 TEXTS = {
@@ -85,6 +85,15 @@ def main():
         check('what rt ci left is taken', prove('--take')[0] == 0 and prove() == (0, '') and prove('--optimize')[0] == 0)
         change('The greatest of two', 'The greater of two')
         check('but not for another text', prove('--is-proved')[0] == 1)
+        check('what comes first is waited for alone', prove('--first', 'small')[0] == 0 and prove('--is-proved')[0] == 1
+              and prove('--is-running')[0] == 0)
+        check('and all goes on behind it', prove()[0] == 0 and prove('--is-proved')[0] == 0)
+        change('The greater of two', 'The greatest of two')
+        with subprocess.Popen([f'{top}/.ci/prove', '--first', 'small'], stderr=subprocess.DEVNULL) as first:
+            time.sleep(1)
+            first.send_signal(signal.SIGINT)
+        check('interrupted, nothing goes on', first.returncode == 130 and prove('--is-running')[0] == 1
+              and prove('--is-proved', 'small')[0] == 1)
     print(f'prove: {passed} passed, {failed} failed')
     return 1 if failed else 0
 

@@ -1,13 +1,12 @@
 """How long a fresh clone waits, for `.ci/bench first`: for the first answer without a proof, for the first one that is
-proved, for the whole program, and with the word --gate for `.ci/run`; of each the processor's time, and the most memory that
-the machine had in use meanwhile, less what it had before.
+proved, for the rest of the program, and with the word --gate for `.ci/run`; of each the time that the machine's processors
+were at work, and the most memory that it had in use meanwhile, less what it had before.
 
 Each commit has a clone of its own. What checks of other clones have kept on this machine is put aside meanwhile, since `rt`
 would begin with it. The figures of two commits may be compared where nothing else was at work."""
 
 import contextlib
 import os
-import resource
 import shutil
 import subprocess
 import sys
@@ -30,6 +29,13 @@ class Took:
     wall: float
     processor: float
     memory: float
+
+
+def at_work() -> float:
+    """For how many seconds the processors of this machine were at work, whoever for: much is proved behind a command."""
+    with open("/proc/stat", encoding="ascii") as file:
+        user, nice, system, _idle, _waiting, *interrupts = map(int, file.readline().split()[1:8])
+    return (user + nice + system + sum(interrupts)) / os.sysconf("SC_CLK_TCK")
 
 
 def in_use() -> float:
@@ -59,15 +65,13 @@ class Peak:
 
 def took(words: Sequence[str], folder: str, wanted: bytes | None = None) -> Took:
     """What a command took; with an answer that is wanted, it gets the message."""
-    begun, before = time.monotonic(), resource.getrusage(resource.RUSAGE_CHILDREN)
+    begun, before = time.monotonic(), at_work()
     with Peak() as peak:
         given = b"" if wanted is None else MESSAGE
         ran = subprocess.run(words, cwd=folder, input=given, stdout=subprocess.PIPE, check=False)
     if ran.returncode or wanted not in (None, ran.stdout):
         raise SystemExit(f"bench: {' '.join(words)}: exit status {ran.returncode}, {ran.stdout[-200:]!r}")
-    after = resource.getrusage(resource.RUSAGE_CHILDREN)
-    spent = after.ru_utime + after.ru_stime - before.ru_utime - before.ru_stime
-    return Took(time.monotonic() - begun, spent, peak.most)
+    return Took(time.monotonic() - begun, at_work() - before, peak.most)
 
 
 @contextlib.contextmanager
@@ -93,9 +97,9 @@ def of_commit(top: str, commit: str, gate: bool) -> dict[str, Took]:
         subprocess.run(["git", "checkout", "--quiet", commit], cwd=f"{room}/it", check=True)
         found["unproved"] = took(["./preview", *OVER_MEMORY], f"{room}/it", ANSWER)
         found["first answer"] = took(["./playout", *OVER_MEMORY], f"{room}/it", ANSWER)
-        # What goes on behind it is ended, and begun anew by what waits for it.
-        subprocess.run(["pkill", "-INT", "-f", f"{room}/it/.ci/prove"], check=False)
+        # The others go on behind it, and are waited for. What LLVM does then isn't.
         found["the rest"] = took([".ci/prove"], f"{room}/it")
+        subprocess.run(["pkill", "-TERM", "-f", f"{room}/it/.ci/prove"], check=False)
         if gate:
             found["the gate"] = took([".ci/run"], f"{room}/it")
     return found
