@@ -17,7 +17,7 @@ CHANNELS, ITEMS, FRAMES, TAPES, CLIPS = 20, 1_000, 2_160_000, 100, 200
 DAYS = (30, 120)
 # How many times what the toolchain takes the open may hold at most and keep, and how much of its time the tests may be.
 HELD_WANTED, KEPT_WANTED, TESTS_WANTED = 3.0, 1.3, 0.25
-# Of how many days, more than an office has at hand, each takes an item and gives it back; what the same may take on one.
+# Of how many days each takes an item or gives one back; what the same may take on one.
 PLANNED, ITEM_WANTED = 200, 0.7
 
 
@@ -122,17 +122,17 @@ def answering(program: str, path: str, stream: bytes) -> float:
 
 
 def of_items(program: str, room: str) -> None:
-    """Prints what an item and its removal take of the processor: of days of which none is at hand when it is asked for,
-    and of one day."""
+    """Prints what an item and its removal take of the processor: of days each of which is asked for once, so that it isn't
+    at hand, and of one day."""
     path = f"{room}/items.db"
     planned(program, path)
     item = '{"at":"18:00:00:00","frames":25,"in":"00:00:00:00","mix":0,"source":"BL"}'
     days, one = range(1, PLANNED + 1), [1]
-    far = posts(days, "items", item) + posts(days, f"items/{ITEMS + 1}/remove")
-    near = (posts(one, "items", item) + posts(one, f"items/{ITEMS + 1}/remove")) * PLANNED
+    far = posts(days[::2], "items", item) + posts(days[1::2], f"items/{ITEMS}/remove")
+    near = (posts(one, "items", item) + posts(one, f"items/{ITEMS + 1}/remove")) * (PLANNED // 2)
     opened, of_all, of_one = (min(answering(program, path, it) for _ in range(3)) for it in (b"", far, near))
     print("\n| Into a day of 1,000 items | not at hand | at hand | ratio | wanted |\n|---|---|---|---|---|")
-    line("an item and its removal: processor, µs", (of_one - opened) / PLANNED * 1e6, (of_all - opened) / PLANNED * 1e6, ITEM_WANTED)
+    line("an item and its removal: processor, µs", (of_one - opened) / PLANNED * 2e6, (of_all - opened) / PLANNED * 2e6, ITEM_WANTED)
 
 
 def line(what: str, value: float, own: float, wanted: float) -> None:

@@ -8,6 +8,8 @@ mod AgainDayLemmas
 mod AgainAiringLemmas
 pub mod AgainLemmas
 pub mod DayPlaceLemmas
+pub mod GrantPlaceLemmas
+pub mod OrderLemmas
 mod PartTableLemmas
 mod PartViewLemmas
 mod PartRuleLemmas
@@ -16,3 +18,5 @@ mod PartLendLemmas
 pub mod PartLemmas
 pub mod LabelLemmas
 pub mod KnownLemmas
+mod LatestLemmas
+pub mod AtHandLemmas

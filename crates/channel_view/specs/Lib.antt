@@ -6,3 +6,4 @@ pub mod Places
 pub mod Parts
 pub mod Revisions
 pub mod Known
+pub mod AtHand

@@ -1,6 +1,6 @@
 //! A store of lists in memory: one for each table, in the order of the channels.
-ghost use Rattle.std.specs.Prelude.{◌≡◌, ◌==◌, ◌<◌, ℕ, [], true, false, Some, find, bytes_eq, length, ◌⊎◌};
-ghost use Rattle.std.specs.Prelude.{IfOk, IfErr, IfSome, IfNone, slice_index_or, slice_set};
+ghost use Rattle.std.specs.Prelude.{◌≡◌, ◌==◌, ◌&&◌, ◌<◌, ℕ, [], true, false, Some, find, bytes_eq, length, ◌⊎◌};
+ghost use Rattle.std.specs.Prelude.{IfOk, IfErr, IfSome, IfNone, IsTrue, is_some, slice_index_or, slice_set, ◌↔◌};
 ghost use Rattle.std.specs.Prelude.{OnOk, OnErr, IsPermutation};
 ghost use Rattle.std.specs.Io.KnownBytes.{Appends};
 ghost use Rattle.std.specs.List.Sorted.{IsNonDecreasingBy};
@@ -19,13 +19,14 @@ ghost use Rattle.channel_view_model.specs.Tables.{rows_alone, rows_of, is_in_ord
 ghost use Rattle.channel_view_model.specs.Tables.{alter_row, replace_row};
 ghost use Rattle.channel_view_model.specs.Seen.{grants_to};
 ghost use Rattle.channel_view_model.specs.Centre.{IsInOrder, plan_of, own_of, own_changed, day_changed};
-ghost use Rattle.channel_view_model.specs.Centre.{airing_changed, view_at};
-ghost use Rattle.channel_view_model.specs.Need.{AreSourceAnswers, IsPartOf, IsSourceAnswer, NamesAlike};
+ghost use Rattle.channel_view_model.specs.Centre.{airing_changed, view_at, view_of};
+ghost use Rattle.channel_view_model.specs.Need.{AreSourceAnswers, IsFetched, IsPartOf, IsSourceAnswer, NamesAlike};
 ghost use Rattle.channel_view_model.specs.Rules.{KeepsRules};
-ghost use Rattle.channel_view_model.specs.TableText.{table_text};
+ghost use Rattle.channel_view_model.specs.TableText.{table_text, text_at};
+ghost use Rattle.channel_view.specs.Places.{AreSourcesNumbered};
 
 use crate::lending::write_lent_of;
-use crate::mem_days::{airing_found, day_found, grant_to, just, set_day};
+use crate::mem_days::{airing_found, day_found, just, set_day};
 use asrun_match::DayAsRun;
 use channel_plan::{Code, PlanRow, Refusal, is_plan};
 use channel_view_model::{
@@ -33,10 +34,10 @@ use channel_view_model::{
     VaultChange, View, airings_alone, days_alone, items_asked,
 };
 use channel_view_rules::{
-    channel_end, channel_rows, channel_start, grants_to, without_channels, write_clips_of,
-    write_days_of, write_offers_of, write_vault_of,
+    OfChannel, channel_end, channel_rows, channel_start, grants_to, without_channels,
+    write_clips_of, write_days_of, write_offers_of, write_vault_of,
 };
-use grant_core::{LentRows, OffersAsked, OffersFound, OpenOffer, is_open_to};
+use grant_core::{Grant, LentRows, OffersAsked, OffersFound, OpenOffer, is_open_to};
 use playlist_core::{DayPlan, Item, Source, SourcesFound};
 use reports::RowFault;
 use std::alloc::Global;
@@ -45,6 +46,9 @@ use std::marker::Model;
 use timecode::Unavailable;
 use umid::Umid;
 use vault_core::{Clip, ClipsAsked, ClipsFound, Offer, OwnRows, Put, Tape, TapesAsked, TapesFound};
+
+// To walk over so many rows takes as long as to look one up in a table by its key.
+const FEW_ROWS: usize = 2_000;
 
 /// A store of lists in memory. Nothing of it outlives the program.
 #[derive(Debug, Drop)]
@@ -92,6 +96,18 @@ impl MemRows {
             aired: Vec::new(alloc),
         };
         Ok(MemRows { alloc, rows })
+    }
+
+    /// A store of these rows, where the channels and each table are in the order of the channels.
+    pub fn from_rows(alloc: Global, rows: CentreRows) -> Option<MemRows>
+        ensures rows { IfSome result (λ m. m ≡ rows) }
+        ensures none { IfNone result (IsInOrder rows → ⊥) }
+    {
+        if are_in_order(&rows) {
+            Some(MemRows { alloc, rows })
+        } else {
+            None
+        }
     }
 
     fn view_at(&self, channel: u16, plan: PlanRow) -> Result<View, Unavailable>
@@ -154,7 +170,7 @@ impl MemRows {
         asked: SourcesAsked,
         items: &[Item],
     ) -> Result<SourcesFound, Unavailable>
-        ensures { is_numbered_from (λ k. k.n) 1 (rows_of channel self.now.clips) ≡ true →
+        ensures { AreSourcesNumbered channel self.now →
             IfOk result (λ found. AreSourceAnswers asked items.now (rows_of channel self.now.clips)
             (grants_to channel self.now.offers) found.clips.items found.grants.items) }
     {
@@ -168,7 +184,7 @@ impl MemRows {
 
     // What these items name; of many items, all.
     fn sources_of(&self, channel: u16, items: &[Item]) -> Result<SourcesFound, Unavailable>
-        ensures { is_numbered_from (λ k. k.n) 1 (rows_of channel self.now.clips) ≡ true →
+        ensures { AreSourcesNumbered channel self.now →
             IfOk result (λ found. NamesAlike items.now (rows_of channel self.now.clips)
             (grants_to channel self.now.offers) found.clips.items found.grants.items) }
     {
@@ -197,7 +213,7 @@ impl MemRows {
 
     // What a source names.
     fn source_at(&self, channel: u16, source: Source) -> Result<SourcesFound, Unavailable>
-        ensures { is_numbered_from (λ k. k.n) 1 (rows_of channel self.now.clips) ≡ true →
+        ensures { AreSourcesNumbered channel self.now →
             IfOk result (λ found. IsSourceAnswer source (rows_of channel self.now.clips)
             (grants_to channel self.now.offers) found.clips.items found.grants.items) }
     {
@@ -257,6 +273,50 @@ impl MemRows {
     {
         channel_rows(&self.rows.channels, channel).first().copied()
     }
+
+    /// The part that a command needs of what the channel sees, or `None` where it isn't in the plan.
+    #[tactic(auto, unfolding(channel_view_model::specs::Centre::view_of))]
+    pub(crate) fn part(&self, channel: u16, need: &Need<'_>) -> Result<Option<Part>, Unavailable>
+        ensures { KeepsRules self.now → IfOk result (IsFetched need.now (view_of channel self.now)) }
+    {
+        match self.plan_of(channel) {
+            None => Ok(None),
+            Some(plan) => Ok(Some(self.part_at(channel, plan, need)?)),
+        }
+    }
+
+    /// Whether a look-up that is asked for walks over many of the channel's rows, as one by a number doesn't.
+    pub(crate) fn walks_far(&self, channel: u16, need: &Need<'_>) -> bool {
+        let tapes = channel_rows(&self.rows.tapes, channel).len();
+        let clips = channel_rows(&self.rows.clips, channel).len();
+        let offers = channel_rows(&self.rows.offers, channel).len();
+        (tapes > FEW_ROWS && (need.tapes.barcode.is_some() || need.tapes.slot.is_some()))
+            || (clips > FEW_ROWS && need.clips.umid.is_some())
+            || (offers > FEW_ROWS && need.offers.open_to.is_some())
+    }
+
+    /// Writes a table of the channel, and says whether the channel is in the plan.
+    #[tactic(auto, unfolding(channel_view_model::specs::Centre::view_of))]
+    pub(crate) fn write<W: Write>(
+        &self,
+        channel: u16,
+        table: Table,
+        output: &mut W,
+    ) -> Result<bool, TableFault>
+        ensures there { IfOk result (λ b. b ≡ is_some (view_of channel self.now)) }
+        ensures ok { OnOk result (Appends (W.contents output.old) (W.contents output.new)
+            (text_at table (view_of channel self.now))) }
+        ensures err { OnErr result (AppendsPart (W.contents output.old) (W.contents output.new)
+            (text_at table (view_of channel self.now))) }
+    {
+        match self.plan_of(channel) {
+            None => Ok(false),
+            Some(plan) => {
+                self.write_table_at(channel, plan, table, output)?;
+                Ok(true)
+            }
+        }
+    }
 }
 
 impl RowStore for MemRows {
@@ -278,28 +338,17 @@ impl RowStore for MemRows {
         }
     }
 
-    #[tactic(auto, unfolding(channel_view_model::specs::Centre::view_of))]
     fn fetch(&mut self, channel: u16, need: &Need<'_>) -> Result<Option<Part>, Unavailable> {
-        match self.plan_of(channel) {
-            None => Ok(None),
-            Some(plan) => Ok(Some(self.part_at(channel, plan, need)?)),
-        }
+        self.part(channel, need)
     }
 
-    #[tactic(auto, unfolding(channel_view_model::specs::Centre::view_of))]
     fn write_table<W: Write>(
         &mut self,
         channel: u16,
         table: Table,
         output: &mut W,
     ) -> Result<bool, TableFault> {
-        match self.plan_of(channel) {
-            None => Ok(false),
-            Some(plan) => {
-                self.write_table_at(channel, plan, table, output)?;
-                Ok(true)
-            }
-        }
+        self.write(channel, table, output)
     }
 
     #[tactic(auto, unfolding(channel_view_model::specs::Centre::changed))]
@@ -311,6 +360,25 @@ impl RowStore for MemRows {
             Change::Airing(airing) => change_airing(self.alloc, &mut self.rows, channel, airing),
         }
     }
+}
+
+// Whether the channels, and the rows of each table, are in the order of the channels.
+fn are_in_order(rows: &CentreRows) -> bool
+    ensures { IsTrue result ↔ IsInOrder rows.now }
+{
+    is_rising(&rows.channels)
+        & is_rising(&rows.tapes)
+        & is_rising(&rows.clips)
+        & is_rising(&rows.offers)
+        & is_rising(&rows.days)
+        & is_rising(&rows.aired)
+}
+
+// Whether these rows are in the order of their channels.
+fn is_rising<R: OfChannel>(rows: &[R]) -> bool
+    ensures { IsTrue result ↔ IsNonDecreasingBy R.channel_of rows.now }
+{
+    rows.is_sorted_by(|row, next| row.channel() <= next.channel())
 }
 
 // A change of one of the channel's days.
@@ -411,6 +479,20 @@ fn row_of<T: Copy>(rows: &[(u16, T)], number: u32) -> Option<T>
     }
     let row = rows.get(number as usize - 1)?;
     Some(row.1)
+}
+
+// The offer with this number of this owner, if it is to the channel, as a lent clip.
+fn grant_to(offers: &[(u16, Offer)], channel: u16, owner: u16, number: u16) -> Option<Grant>
+    requires { is_in_order offers.now ≡ true }
+    ensures { is_numbered_from (λ o. o.n) 1 (rows_of owner offers.now) ≡ true →
+        result ≡ find (λ g. g.owner == owner && g.offer.n == number) (grants_to channel offers.now) }
+{
+    let offer = row_of(channel_rows(offers, owner), u32::from(number))?;
+    if offer.grantee == channel {
+        Some(Grant { owner, offer })
+    } else {
+        None
+    }
 }
 
 // The first clip with this UMID.

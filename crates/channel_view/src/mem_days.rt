@@ -5,18 +5,15 @@ ghost use Rattle.std.specs.List.{cons_option, position_or_len};
 ghost use Rattle.std.specs.Option.{option_map};
 ghost use Rattle.vault_core.specs.Questions.{listed};
 ghost use Rattle.channel_view_model.specs.Tables.{is_in_order, replace_row, rows_alone};
-ghost use Rattle.channel_view_model.specs.Seen.{grant_of};
 ghost use Rattle.channel_view_model.specs.Need.{IsAiringAnswer, IsDayAnswer};
 ghost use Rattle.channel_view.specs.Places.{is_day_at};
 
 use asrun_match::{AiredDay, DayAsRun};
 use channel_plan::PlanRow;
 use channel_view_model::{DayNumber, nothing_aired};
-use grant_core::Grant;
 use playlist_core::DayPlan;
 use std::alloc::Global;
 use timecode::Unavailable;
-use vault_core::Offer;
 
 /// The day that is asked for, there or not.
 pub(crate) fn day_found(
@@ -71,25 +68,6 @@ fn day_of(days: &[(u16, DayPlan)], number: u32) -> Option<&DayPlan>
 {
     let row = days.iter().find(|r| r.1.number() == number)?;
     Some(&row.1)
-}
-
-/// The first offer with this number of this owner that is to the channel, as a lent clip.
-pub(crate) fn grant_to(
-    offers: &[(u16, Offer)],
-    channel: u16,
-    owner: u16,
-    number: u16,
-) -> Option<Grant>
-    ensures { result ≡ option_map grant_of
-        (find (λ r. r.1.grantee == channel && (r.0 == owner && r.1.n == number)) offers.now) }
-{
-    let row = offers.iter().find(|r| {
-        r.1.grantee == channel && (r.0 == owner && r.1.n == number)
-    })?;
-    Some(Grant {
-        owner: row.0,
-        offer: row.1,
-    })
 }
 
 /// Just this row, if there is one.

@@ -2,3 +2,4 @@ pub mod Kept
 pub mod Refusing
 pub mod Serving
 pub mod Acting
+pub mod Vaults

@@ -14,6 +14,7 @@ ghost use Rattle.playout_cli.specs.Serving.{TablesHave, FindsNone};
 ghost use Rattle.station_tables.specs.Tables.{MayLeave};
 
 use crate::machine::Files;
+use crate::vaults::with_vaults;
 use channel_plan::{Code, PlanRow, Refusal};
 use channel_view::RecentDays;
 use playout_actions::{Fault, answer_over};
@@ -107,9 +108,9 @@ pub fn answer_tables<S: Alter, R: Read, W: Write>(
 {
     match store_in(alloc, conn, plan) {
         Ok(opened) => {
-            let mut store = RecentDays::over(alloc, opened);
+            let mut store = RecentDays::over(alloc, with_vaults(alloc, opened));
             let done = answer_over(alloc, &mut store, input, output);
-            let conn = store.into_store().into_connection();
+            let conn = store.into_store().into_store().into_connection();
             match done {
                 Ok(()) => (conn, Ok(())),
                 Err(fault) => (conn, Err(Fault::Stream(fault))),

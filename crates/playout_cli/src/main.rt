@@ -22,6 +22,7 @@ mod file;
 mod machine;
 mod serve;
 mod table;
+mod vaults;
 
 use acting::program;
 use machine::Host;

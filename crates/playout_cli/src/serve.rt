@@ -17,6 +17,7 @@ ghost use Rattle.playout_cli.specs.Serving.{text_of_serving, line_of_serving};
 ghost use Rattle.reports.specs.Output.{AppendsPart};
 
 use crate::machine::Ports;
+use crate::vaults::with_vaults;
 use channel_view::RecentDays;
 use channel_view_model::RowStore;
 use playout_actions::{Fault, FaultLines, FaultWriter, StreamFault};
@@ -224,9 +225,9 @@ pub fn serve_tables<S: Alter, P: Ports, W: Write, E: FaultWriter>(
 {
     match SqlRows::open_tables(alloc, conn) {
         Ok(opened) => {
-            let mut store = RecentDays::over(alloc, opened);
+            let mut store = RecentDays::over(alloc, with_vaults(alloc, opened));
             let served = serve_port(alloc, ports, &mut store, asked, output, faults);
-            (store.into_store().into_connection(), served)
+            (store.into_store().into_store().into_connection(), served)
         }
         Err((conn, refusal)) => (conn, Err(Fault::Refused(refusal))),
     }

@@ -25,7 +25,8 @@
 //! ```
 //!
 //! The plan never changes once the centre was made. So a store keeps it, as it was made with it or found it, and stands
-//! for sets with this plan alone (`StandsWithPlan`).
+//! for sets with this plan alone (`StandsWithPlan`). [`SqlRows::vaults`] reads the tapes, the clips and the offers of all
+//! channels, where they take few enough bytes, for a store over this one that has them at hand (`vaults`, `few`).
 //!
 //! Each call is one transaction on a connection with none open: those that commit, and the one that tests what is
 //! opened, before it is taken for a centre: its version, that each of its tables' rows reads, and that the set which

@@ -1,5 +1,6 @@
-//! What one channel sees, whole or just the part that a command needs, each in one transaction, by its row of the plan.
-ghost use Rattle.std.specs.Prelude.{◌≡◌, false, IfOk, IfSome, OnOk};
+//! What one channel sees, whole or just the part that a command needs, by its row of the plan, and the vaults of all
+//! channels, each in one transaction.
+ghost use Rattle.std.specs.Prelude.{◌≡◌, ◌≤◌, false, IfOk, IfSome, OnOk};
 ghost use Rattle.sqlite.specs.State.{HasCleanDisk, Survives};
 ghost use Rattle.sqlite.specs.Held.{state};
 ghost use Rattle.channel_view_model.specs.Centre.{Centre, plan_of, view_of};
@@ -8,11 +9,12 @@ ghost use Rattle.station_tables.specs.Tables.{LeavesSets};
 ghost use Rattle.channel_view_model.specs.Need.{IsFetched};
 ghost use Rattle.channel_view_model.specs.Rules.{KeepsRules};
 ghost use Rattle.channel_view_rules.specs.ViewRules.{KeepsViewRules};
+ghost use Rattle.station_tables_reading.specs.Vaults.{AreVaultsRead, bytes_of};
 
 use channel_plan::PlanRow;
-use channel_view_model::{Need, Part, View};
+use channel_view_model::{CentreRows, Need, Part, View};
 use sqlite::{Alter, Connection};
-use station_tables_reading::{read_part, read_view};
+use station_tables_reading::{read_part, read_vaults, read_view};
 use std::alloc::Global;
 use timecode::Unavailable;
 
@@ -62,4 +64,28 @@ pub(crate) fn fetch_part<S: Alter>(
 {
     let mut tx = conn.transaction();
     read_part(alloc, &mut tx, channel, plan, need)
+}
+
+/// The plan, whose channels these are, and the tapes, the clips and the offers of all of them, with no day, or `None`
+/// where they take more than so many bytes. Rows that don't read are refused.
+pub(crate) fn load_vaults<S: Alter>(
+    alloc: Global,
+    conn: &mut Connection<S>,
+    plan: &[PlanRow],
+    most: usize,
+) -> Result<Option<CentreRows>, Unavailable>
+    requires idle { conn.old.in_transaction ≡ false }
+    ensures idle { conn.new.in_transaction ≡ false }
+    ensures vaults { HasCleanDisk (state S.Store conn.new) → (rows : Centre) → StandsFor (state S.Store conn.old) rows →
+        rows.channels ≡ plan.now → IfOk result (AreVaultsRead rows most) }
+    ensures few { IfOk result (λ vaults. IfSome vaults (λ v. bytes_of v ≤ most)) }
+    ensures rules { HasCleanDisk (state S.Store conn.new) → (rows : Centre) → StandsFor (state S.Store conn.old) rows →
+        OnOk result (KeepsRules rows) }
+    ensures same { HasCleanDisk (state S.Store conn.new) → (rows : Centre) → StandsFor (state S.Store conn.old) rows →
+        StandsFor (state S.Store conn.new) rows }
+    ensures survives { Survives (state S.Store conn.old) (state S.Store conn.new) (λ _. ⊥) }
+    ensures sets { LeavesSets (state S.Store conn.old) → LeavesSets (state S.Store conn.new) }
+{
+    let mut tx = conn.transaction();
+    read_vaults(alloc, &mut tx, plan, most)
 }

@@ -1,7 +1,10 @@
 //! The calls of the store.
-ghost use Rattle.std.specs.Prelude.{◌≡◌, false, IfOk, IfErr};
+ghost use Rattle.std.specs.Prelude.{◌≡◌, ◌≤◌, false, IfOk, IfErr, IfSome, OnOk};
 ghost use Rattle.sqlite.specs.State.{HasCleanDisk};
 ghost use Rattle.sqlite.specs.Held.{state};
+ghost use Rattle.channel_view_model.specs.Centre.{Centre};
+ghost use Rattle.channel_view_model.specs.Rules.{KeepsRules};
+ghost use Rattle.station_tables_reading.specs.Vaults.{AreVaultsRead, bytes_of};
 ghost use Rattle.station_tables_statements.specs.Calls.{HasKnownSchema};
 ghost use Rattle.station_tables_statements.specs.Rows.{channels_in, plan_in_order};
 ghost use Rattle.station_tables.specs.Tables.{LeavesSets, MayLeave};
@@ -12,10 +15,10 @@ use crate::applying::commit_change;
 use crate::connected::SqlRows;
 use crate::finding::Version;
 use crate::founding::{create_centre, rows_in_order};
-use crate::loading::{fetch_part, load_view};
+use crate::loading::{fetch_part, load_vaults, load_view};
 use crate::opening::open_centre;
 use channel_plan::{Code, PlanRow, Refusal, is_plan, plan_row};
-use channel_view_model::{Change, Need, Part, RowStore, Table, TableFault, View};
+use channel_view_model::{CentreRows, Change, Need, Part, RowStore, Table, TableFault, View};
 use sqlite::{Alter, Connection};
 use station_tables_reading::write_table;
 use std::alloc::Global;
@@ -79,6 +82,24 @@ impl<S: Alter> SqlRows<S> {
             Ok(plan) => Ok(SqlRows { alloc, conn, plan }),
             Err(code) => Err((conn, Refusal::of(code))),
         }
+    }
+
+    /// The plan, the tapes, the clips and the offers of all channels, with no day, or `None` where they take more than so
+    /// many bytes. It fails where memory or the store does, and where a row doesn't read.
+    pub fn vaults(&mut self, most: usize) -> Result<Option<CentreRows>, Unavailable>
+        ensures clean { HasCleanDisk (store_state S.Store self.new) → HasCleanDisk (store_state S.Store self.old) }
+        ensures vaults { HasCleanDisk (store_state S.Store self.new) → (rows : Centre) →
+            StandsWithPlan S.Store self.old rows → IfOk result (AreVaultsRead rows most) }
+        ensures few { IfOk result (λ vaults. IfSome vaults (λ v. bytes_of v ≤ most)) }
+        ensures rules { HasCleanDisk (store_state S.Store self.new) → (rows : Centre) →
+            StandsWithPlan S.Store self.old rows → OnOk result (KeepsRules rows) }
+        ensures same { HasCleanDisk (store_state S.Store self.new) → (rows : Centre) →
+            StandsWithPlan S.Store self.old rows → StandsWithPlan S.Store self.new rows }
+        ensures stop { HasCleanDisk (store_state S.Store self.new) → (left : Centre) →
+            MayLeave (store_state S.Store self.new) left → MayLeave (store_state S.Store self.old) left }
+        ensures sets { LeavesSets (store_state S.Store self.old) → LeavesSets (store_state S.Store self.new) }
+    {
+        load_vaults(self.alloc, &mut self.conn, &self.plan, most)
     }
 
     /// The database, with no transaction open.

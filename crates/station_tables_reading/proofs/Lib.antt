@@ -5,3 +5,4 @@ pub mod LentLemmas
 pub mod PageTextLemmas
 pub mod SeenLemmas
 pub mod ThenLemmas
+pub mod VaultLemmas

@@ -4,6 +4,7 @@
 //! - [`read_part`] reads the part of it that a command needs: just the rows and counts that it asks for, each by a
 //!   statement of its own.
 //! - [`write_table`] writes a table of the channel, page by page.
+//! - [`read_vaults`] reads the tapes, the clips and the offers of all channels, where they take few enough bytes.
 //!
 //! Each is given the channel's row of the plan, and selects none. Where that is all that is asked for, the store still
 //! has to be open (`test_open`).
@@ -27,8 +28,10 @@ mod fetching;
 mod open_testing;
 mod own_fetching;
 mod table_writing;
+mod vaults_loading;
 mod view_loading;
 
 pub use fetching::read_part;
 pub use table_writing::write_table;
+pub use vaults_loading::read_vaults;
 pub use view_loading::read_view;

@@ -9,10 +9,11 @@ use crate::others::{
 use crate::recording::Recording;
 use crate::script::{Exchange, exchanges_of, message};
 use channel_plan::PlanRow;
-use channel_view::{MOST_DAYS, MemRows, RecentDays};
+use channel_view::{MOST_DAYS, MemRows, RecentDays, VaultsAtHand};
 use channel_view_model::RowStore;
 use http_office::answers::Answer;
 use http_office::messages::answer;
+use sqlite::MemStore;
 use station_tables::{SqlRows, centre_in_memory};
 use std::alloc::Global;
 use std::process::Abort;
@@ -177,13 +178,66 @@ fn is_answered_over_tables(rt: &impl Abort, alloc: Global, centre: u16) -> Resul
     }
 }
 
-// More days of channel 2 than are known at once: each is opened, and read.
+/// A store over these tables with the vaults of all channels at hand.
+pub(crate) fn with_vaults(
+    alloc: Global,
+    tables: SqlRows<MemStore>,
+) -> VaultsAtHand<SqlRows<MemStore>> {
+    let mut tables = tables;
+    let vaults = match tables.vaults(usize::MAX) {
+        Ok(Some(rows)) => MemRows::from_rows(alloc, rows),
+        Ok(None) | Err(_) => None,
+    };
+    VaultsAtHand::over(tables, vaults)
+}
+
+// The same over tables, with their vaults at hand once all have asked.
+fn is_answered_at_hand(rt: &impl Abort, alloc: Global, centre: u16) -> Result<(), Fail> {
+    let mut tables = match centre_in_memory(alloc, &plan(alloc, centre)?) {
+        Ok(tables) => tables,
+        Err(refusal) => return Err(Fail::from(refusal)),
+    };
+    let asked = all_ask(rt, alloc, centre, &mut tables);
+    let mut store = Recording::over(with_vaults(alloc, tables), 1);
+    let answered = match asked {
+        Ok(()) => channel_1_is_answered(rt, alloc, &mut store),
+        Err(fail) => Err(fail),
+    };
+    let _ = store.into_store().into_store().into_connection();
+    answered
+}
+
+// Of vaults at hand the store below is asked nothing: each of these four tables is no call but the commit of nothing.
+fn is_asked_of_no_store(rt: &impl Abort, alloc: Global, centre: u16) -> Result<(), Fail> {
+    let mut tables = match centre_in_memory(alloc, &plan(alloc, centre)?) {
+        Ok(tables) => tables,
+        Err(refusal) => return Err(Fail::from(refusal)),
+    };
+    let asked = all_ask(rt, alloc, centre, &mut tables);
+    let vaults = match tables.vaults(usize::MAX) {
+        Ok(Some(rows)) => MemRows::from_rows(alloc, rows),
+        Ok(None) | Err(_) => None,
+    };
+    let mut store = VaultsAtHand::over(Recording::over(tables, 1), vaults);
+    let answered = match asked {
+        Ok(()) => are_answered(rt, alloc, &mut store, TABLES_AT_FIRST),
+        Err(fail) => Err(fail),
+    };
+    let below = store.into_store();
+    let calls = below.calls();
+    let _ = below.into_store().into_connection();
+    assert_eq!(rt; (answered?, calls), (4, (4, 0)));
+    Ok(())
+}
+
+// So many days of channel 2: each is opened, and read.
 fn many_days_are_read<S: RowStore>(
     rt: &impl Abort,
     alloc: Global,
     store: &mut S,
+    count: usize,
 ) -> Result<(), Fail> {
-    for day in 1_000..1_002 + MOST_DAYS {
+    for day in 1_000..1_000_usize.saturating_add(count) {
         let opened = (
             String::from_str(alloc, "POST /ch/2/days")?,
             format!(in alloc; "{{\"day\":{day}}}")?,
@@ -197,16 +251,21 @@ fn many_days_are_read<S: RowStore>(
     Ok(())
 }
 
-// The same over the store that the program has: tables, with as many days of another channel at hand as it keeps, and
-// more that it had.
-fn is_answered_over_known_days(rt: &impl Abort, alloc: Global, centre: u16) -> Result<(), Fail> {
+// The same over the store that the program has: tables, with all vaults at hand, and with days of another channel, of so
+// many that it had.
+fn is_answered_over_known_days(
+    rt: &impl Abort,
+    alloc: Global,
+    centre: u16,
+    count: usize,
+) -> Result<(), Fail> {
     let tables = match centre_in_memory(alloc, &plan(alloc, centre)?) {
         Ok(tables) => tables,
         Err(refusal) => return Err(Fail::from(refusal)),
     };
-    let mut known = RecentDays::over(alloc, tables);
+    let mut known = RecentDays::over(alloc, with_vaults(alloc, tables));
     let asked = match all_ask(rt, alloc, centre, &mut known) {
-        Ok(()) => many_days_are_read(rt, alloc, &mut known),
+        Ok(()) => many_days_are_read(rt, alloc, &mut known, count),
         Err(fail) => Err(fail),
     };
     let mut store = Recording::over(known, 1);
@@ -214,7 +273,11 @@ fn is_answered_over_known_days(rt: &impl Abort, alloc: Global, centre: u16) -> R
         Ok(()) => channel_1_is_answered(rt, alloc, &mut store),
         Err(fail) => Err(fail),
     };
-    let _ = store.into_store().into_store().into_connection();
+    let _ = store
+        .into_store()
+        .into_store()
+        .into_store()
+        .into_connection();
     answered
 }
 
@@ -244,11 +307,12 @@ fn is_answered_after_a_stop(rt: &impl Abort, alloc: Global, centre: u16) -> Resu
     }
 }
 
-// Ten centres, from this one on, over both stores.
+// Ten centres, from this one on, over both stores, and over tables with their vaults at hand.
 fn ten_centres_answer(rt: &impl Abort, alloc: Global, first: u16) -> Result<(), Fail> {
     for centre in first..first.saturating_add(10) {
         is_answered_over_lists(rt, alloc, centre)?;
         is_answered_over_tables(rt, alloc, centre)?;
+        is_answered_at_hand(rt, alloc, centre)?;
     }
     Ok(())
 }
@@ -280,10 +344,21 @@ fn centres_40_to_49(rt: HostRuntime) -> Result<(), Fail> {
 
 #[test]
 fn centres_with_days_at_hand(rt: HostRuntime) -> Result<(), Fail> {
-    for centre in [0, 7, 21, 38] {
-        is_answered_over_known_days(&rt, rt.alloc(), centre)?;
+    for centre in [7, 21, 38] {
+        is_answered_over_known_days(&rt, rt.alloc(), centre, 64)?;
     }
     Ok(())
+}
+
+// Two more than are at hand at once, so the first go.
+#[test]
+fn a_centre_with_more_days_than_are_at_hand(rt: HostRuntime) -> Result<(), Fail> {
+    is_answered_over_known_days(&rt, rt.alloc(), 0, MOST_DAYS + 2)
+}
+
+#[test]
+fn vaults_at_hand_are_asked_of_no_store(rt: HostRuntime) -> Result<(), Fail> {
+    is_asked_of_no_store(&rt, rt.alloc(), 0)
 }
 
 #[test]

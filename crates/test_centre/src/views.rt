@@ -1,6 +1,6 @@
-//! What a channel sees, loaded from each store: `MemRows`, `SqlRows`, and `RecentDays` over this.
+//! What a channel sees, loaded from each store: `MemRows`, `SqlRows`, and `RecentDays` and `VaultsAtHand` over this.
 use crate::asked::FIRST;
-use crate::centres::are_answered;
+use crate::centres::{are_answered, with_vaults};
 use crate::others::plan_row;
 use channel_view::{MemRows, RecentDays};
 use channel_view_model::{RowStore, View};
@@ -68,5 +68,9 @@ fn a_view_is_loaded_from_each_store(rt: HostRuntime) -> Result<(), Fail> {
     let mut recent = RecentDays::over(alloc, centre_in_memory(alloc, &plan).map_err(Fail::from)?);
     let loaded = is_loaded(&rt, alloc, &mut recent);
     let _ = recent.into_store().into_connection();
+    loaded?;
+    let mut at_hand = with_vaults(alloc, centre_in_memory(alloc, &plan).map_err(Fail::from)?);
+    let loaded = is_loaded(&rt, alloc, &mut at_hand);
+    let _ = at_hand.into_store().into_connection();
     loaded
 }

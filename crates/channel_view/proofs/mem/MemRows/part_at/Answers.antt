@@ -11,6 +11,7 @@ use Rattle.channel_view_model.specs.Centre.{IsInOrder}
 use Rattle.channel_view_model.specs.Need.{AreSourceAnswers, IsDayAnswer, IsAiringAnswer}
 use Rattle.channel_view_model.specs.Seen.{grants_to}
 use Rattle.channel_view_rules.proofs.BisectLemmas.{rises}
+use Rattle.channel_view.proofs.GrantPlaceLemmas.{sources_numbered}
 use Rattle.channel_view.proofs.mem.MemRows.part_at.Goals as goal
 
 pub channel_rows-tapes-requires : goal.channel_rows-tapes-requires
@@ -83,5 +84,5 @@ returns c = λ rules known.
           (λ items. AreSourceAnswers c.args.need.now.sources items (rows_of c.args.channel c.args.self.now.clips)
           (grants_to c.args.channel c.args.self.now.offers) c.in_ok-sources.sources.clips.items
           c.in_ok-sources.sources.grants.items) c.items_asked-items.ensures
-          (c.in_ok-sources.ensures kept.clips.numbers);
+          (c.in_ok-sources.ensures (sources_numbered c.args.self.now c.args.channel c.args.plan rules known));
     }

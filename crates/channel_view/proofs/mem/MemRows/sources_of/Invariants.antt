@@ -1,15 +1,15 @@
 -- The loop of `MemRows::sources_of` (what items name).
-use Rattle.std.proofs.Common.{◌≡◌, true, take}
-use Rattle.vault_core.specs.Rules.{is_numbered_from}
+use Rattle.std.proofs.Common.{◌≡◌, take}
 use Rattle.channel_view_model.specs.Tables.{rows_of}
 use Rattle.channel_view_model.specs.Seen.{grants_to}
 use Rattle.channel_view_model.proofs.NamedLemmas.{clips_named, grants_named}
+use Rattle.channel_view.specs.Places.{AreSourcesNumbered}
 use Rattle.channel_view.proofs.mem.MemRows.sources_of.Given as goal
 
 -- what the items in front name was found
 abbrev pub invariant-loop-item : goal.invariant-loop-item
 invariant-loop-item l =
-    is_numbered_from (λ k. k.n) 1 (rows_of l.channel l.self.clips) ≡ true
+    AreSourcesNumbered l.channel l.self
     → (l.found.clips.items
     ≡ clips_named (rows_of l.channel l.self.clips) (grants_to l.channel l.self.offers) (take l.item-index l.items))
     × (l.found.grants.items
