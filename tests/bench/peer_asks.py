@@ -66,7 +66,7 @@ def listed(sources: list[str]) -> str:
 
 
 def often(size: int) -> int:
-    """How often something of this size is asked in a round, so that no more than 64 days are."""
+    """How often something of this size is asked in a round: the larger it is, the less often."""
     return max(3, min(20, 20_000 // size))
 
 

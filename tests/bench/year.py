@@ -1,5 +1,6 @@
 """What an open takes of a centre's first months, for `.ci/bench year`: 20 channels, each day with 1,000 items and 1,000
-aired rows a channel. And what an item takes into a day of 1,000, where the office has the day at hand, and where not.
+aired rows a channel. What it takes of as many clips and offers in few channels, and in many. And what an item takes into
+a day of 1,000, where the office has the day at hand, and where not.
 
 What the toolchain's SQLite takes by itself is measured over the same file with another version of the tables: the program
 opens it, reads the version, and refuses it before it looks at any other row."""
@@ -11,7 +12,7 @@ import sqlite3
 import subprocess
 import tempfile
 from dataclasses import dataclass
-from typing import Iterable
+from typing import Iterable, Iterator
 
 CHANNELS, ITEMS, FRAMES, TAPES, CLIPS = 20, 1_000, 2_160_000, 100, 200
 DAYS = (30, 120)
@@ -19,6 +20,9 @@ DAYS = (30, 120)
 HELD_WANTED, KEPT_WANTED, TESTS_WANTED = 3.0, 1.3, 0.25
 # Of how many days each takes an item or gives one back; what the same may take on one.
 PLANNED, ITEM_WANTED = 200, 0.7
+
+# In how many channels so many clips lie, and how many times what an open takes with few of them it may take with many.
+SPREAD, ALL_CLIPS, SPREAD_WANTED = (10, 999), 100_000, 1.3
 
 
 @dataclass
@@ -29,16 +33,18 @@ class Took:
     held: float
 
 
-def umid_of(channel: int, number: int) -> bytes:
-    """A basic UMID of 32 bytes (SMPTE ST 330), with a material number of its own."""
-    return bytes.fromhex("060a2b340101010501010d2013000000") + channel.to_bytes(8, "big") + number.to_bytes(8, "big")
+def umid_of(channel: int, number: int, grantee: int = 0) -> bytes:
+    """A basic UMID of 32 bytes (SMPTE ST 330), with a material number of its own. Its instance number is that of the channel
+    that it is lent to."""
+    label = bytes.fromhex("060a2b340101010501010d2013")
+    return label + grantee.to_bytes(3, "big") + channel.to_bytes(8, "big") + number.to_bytes(8, "big")
 
 
 def fill(conn: sqlite3.Connection, days: int) -> None:
     """The rows of so many days."""
     channels = range(1, CHANNELS + 1)
     length = FRAMES // ITEMS
-    tables = {
+    tables: dict[str, Iterator[tuple[object, ...]]] = {
         "tape(ch, n, barcode, slot)": ((ch, n, f"T{n}", n) for ch in channels for n in range(1, TAPES + 1)),
         "clip(ch, n, tape, title, umid, src_first, frames, retired)": (
             (ch, n, 1 + n % TAPES, f"CLIP {n}", umid_of(ch, n), 0, length, 0) for ch in channels for n in range(1, CLIPS + 1)),
@@ -51,6 +57,11 @@ def fill(conn: sqlite3.Connection, days: int) -> None:
             (ch, day, 1, n, (n - 1) * length, length, f"C{1 + n % CLIPS:07}", 0)
             for ch in channels for day in range(1, days + 1) for n in range(1, ITEMS + 1)),
     }
+    put(conn, tables)
+
+
+def put(conn: sqlite3.Connection, tables: dict[str, Iterator[tuple[object, ...]]]) -> None:
+    """Puts in rows, by the table with its columns."""
     for name, rows in tables.items():
         places = ", ".join("?" * (name.count(",") + 1))
         conn.executemany(f"INSERT INTO {name} VALUES ({places})", rows)
@@ -101,6 +112,40 @@ def planned(program: str, path: str) -> None:
     conn.close()
 
 
+def spread(program: str, path: str, channels: int) -> None:
+    """A file of so many channels that have all clips together. Each lends a tenth of its own to the next one, and has a
+    day with an item of the first."""
+    plan = [f"{ch},25,06:00:00:00,40" for ch in range(1, channels + 1)]
+    subprocess.run([program, "answer", "--db", path, *plan], stdin=subprocess.DEVNULL, check=True)
+    every, clips = range(1, channels + 1), range(1, ALL_CLIPS // channels + 1)
+    tables: dict[str, Iterator[tuple[object, ...]]] = {
+        "tape(ch, n, barcode, slot)": ((ch, 1, "T1", 1) for ch in every),
+        "clip(ch, n, tape, title, umid, src_first, frames, retired)": (
+            (ch, n, 1, f"CLIP {n}", umid_of(ch, n), 0, 25, 0) for ch in every for n in clips),
+        "offer(ch, n, grantee, clip, title, umid, rate, src_first, frames, withdrawn)": (
+            (ch, n, ch % channels + 1, n, f"CLIP {n}", umid_of(ch, n, ch % channels + 1), "25", 0, 25, 0)
+            for ch in every for n in clips[: len(clips) // 10]),
+        "day(ch, day, sealed)": ((ch, 1, 0) for ch in every),
+        "item(ch, day, n, pos, frames, src, src_first, kind, mix)": ((ch, 1, 1, 0, 25, "C0000001", 0, "C", 0) for ch in every),
+    }
+    conn = sqlite3.connect(path)
+    put(conn, tables)
+    conn.close()
+
+
+def of_channels(program: str, room: str) -> None:
+    """Prints what an open takes of as many clips in few channels and in many."""
+    taken = []
+    for channels in SPREAD:
+        path = f"{room}/spread.db"
+        spread(program, path, channels)
+        taken.append(min(took([program, "table", "--db", path, "--ch", "1", "vault"], b"SHELVED").seconds for _ in range(3)))
+        os.remove(path)
+    few, many = SPREAD
+    print(f"\n| An open of {ALL_CLIPS:,} clips | {few} channels | {many} | ratio | wanted |\n|---|---|---|---|---|")
+    line("processor, s", taken[1], taken[0], SPREAD_WANTED)
+
+
 def posts(days: Iterable[int], what: str, body: str = "") -> bytes:
     """A request of each of these days."""
     return b"".join(f"POST /ch/1/days/{day}/{what} HTTP/1.1\r\nContent-Length: {len(body)}\r\n\r\n{body}".encode() for day in days)
@@ -144,6 +189,7 @@ def line(what: str, value: float, own: float, wanted: float) -> None:
 def of_year(program: str, room: str) -> None:
     """Prints what the opens of some months take, and an item into a large day."""
     of_items(program, room)
+    of_channels(program, room)
     print("\n| An open | SQLite alone | the office | ratio | wanted |\n|---|---|---|---|---|")
     for days in DAYS:
         path = f"{room}/year.db"

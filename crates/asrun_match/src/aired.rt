@@ -12,7 +12,7 @@ use std::marker::Model;
 use timecode::Unavailable;
 
 /// The reel that was aired: 1 to 8 letters A to Z and digits. Black is `BL`.
-#[derive(Clone, Copy, Debug, PartialEq, Eq)]
+#[derive(Clone, Copy, PartialEq, Eq)]
 pub struct Reel {
     text: ShortText<8>,
 }
@@ -83,7 +83,7 @@ fn short_name(text: &[u8]) -> &[u8]
 }
 
 /// A row of what was aired.
-#[derive(Clone, Copy, Debug, PartialEq, Eq)]
+#[derive(Clone, Copy, PartialEq, Eq)]
 pub struct AiredRow {
     /// The frame of the broadcast day at which it began.
     pub pos: u32,
@@ -127,7 +127,7 @@ pub(crate) fn is_source_range(day: u32, source: Option<Source>, first: u32, fram
 }
 
 /// The rows of one batch, as they came.
-#[derive(Debug, Drop)]
+#[derive(Drop)]
 pub struct Batch {
     rows: Vec<AiredRow>,
 }

@@ -23,7 +23,7 @@ use timecode::{Unavailable, day_frames};
 pub const MAX_BATCHES: u32 = 64;
 
 /// What was aired of a day: its batches, whose rows lie one behind the other within the day.
-#[derive(Debug, Drop)]
+#[derive(Drop)]
 pub struct AiredDay {
     batches: Vec<Batch>,
     // All rows, by their positions.
@@ -261,7 +261,7 @@ fn copies_of(alloc: Global, batches: &[Batch]) -> Result<Vec<Batch>, Unavailable
 }
 
 /// What was aired of a broadcast day.
-#[derive(Debug, Drop)]
+#[derive(Drop)]
 pub struct DayAsRun {
     /// The day's number. Nothing here tests it: in a set that keeps the rules it is that of a sealed day of the
     /// channel, 1 to 99,999.

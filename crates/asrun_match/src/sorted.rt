@@ -14,7 +14,7 @@ use std::marker::Model;
 use timecode::Unavailable;
 
 /// Rows of a day, one behind the other.
-#[derive(Debug, Drop)]
+#[derive(Drop)]
 pub(crate) struct SortedRows {
     frames: u32,
     rows: Vec<AiredRow>,

@@ -22,7 +22,7 @@ pub enum Status {
 }
 
 /// A stretch of one status: a longest one, as [`reconcile`](crate::reconcile) gives it.
-#[derive(Clone, Copy, Debug, PartialEq, Eq)]
+#[derive(Clone, Copy, PartialEq, Eq)]
 pub struct Run {
     /// The frame of the broadcast day at which it begins.
     pub position: u32,

@@ -4,7 +4,7 @@ ghost use Rattle.std.specs.Prelude.{◌≡◌, ◌≤◌, length, nat_le, Some, 
 use std::marker::Model;
 
 /// A text of at most `N` bytes, which lie in the value itself, so that a row that holds it is `Copy`.
-#[derive(Clone, Copy, Debug, PartialEq, Eq)]
+#[derive(Clone, Copy, PartialEq, Eq)]
 pub struct ShortText<const N: usize> {
     bytes: [u8; N],
     len: usize,

@@ -17,6 +17,3 @@ mod PartChangeLemmas
 mod PartLendLemmas
 pub mod PartLemmas
 pub mod LabelLemmas
-pub mod KnownLemmas
-mod LatestLemmas
-pub mod AtHandLemmas

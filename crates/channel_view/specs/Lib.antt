@@ -5,5 +5,4 @@ pub mod Again
 pub mod Places
 pub mod Parts
 pub mod Revisions
-pub mod Known
-pub mod AtHand
+pub mod Walks

@@ -16,33 +16,21 @@
 //! - [`laws`] says the same of any list of requests, and of two stores: what the channel sees alike in both is answered
 //!   alike. A set of channels to which no other lends is answered alike without the others' rows and requests.
 //!
-//! [`MemRows`] is a store of lists in memory. [`RecentDays`] is a store over another one, which has at hand the days
-//! that were asked for or changed last, and what was aired of them, where that was asked for. Who works on a day
-//! sends command after command, and each needs all its items, or all that was aired. It asks the one below for these
-//! once, and each change goes there (`specs/Known`). It holds at most [`MOST_DAYS`] days with at most [`MOST_ROWS`]
-//! rows (`few`, `few_rows`). The days that were asked for or changed least lately make room, and no more of them than
-//! have to (`LeavesLatest`). Where no memory is there for a day, it isn't at hand. [`VaultsAtHand`] is a store over
-//! another one, which may have all rows but days at hand, as lists in memory, and asks the one below for these only
-//! where a look-up would walk over many (`specs/AtHand`).
-//!
 //! [`run`] takes the room for all outcomes first: refused, nothing was done (`err`). A [`Part`] holds the
 //! answers to what is asked and nothing else, but clips that are seen beside those that items name (`IsPartOf`).
-//! [`MemRows`] stands for its lists where these keep the rules; `MemRows::new` is the plan alone, and takes only a plan
-//! (`plan`, `alone`, `only_a_plan`, `rules`). `MemRows::from_rows` takes any rows in order (`rows`, `none`).
+//!
+//! [`MemRows`] is a store of lists in memory. It stands for its lists where these keep the rules; `MemRows::new` is the
+//! plan alone, and takes only a plan (`plan`, `alone`, `only_a_plan`, `rules`). `MemRows::from_rows` takes any rows in
+//! order (`rows`, `none`). `MemRows::walks_far` says whether a look-up goes over many rows (`specs/Walks`).
 #![tactic(auto)]
 
-mod at_hand;
-mod following;
-mod known;
 pub mod laws;
 mod lending;
 mod mem;
 mod mem_days;
-mod recent;
 mod requests;
 mod runs;
 
-pub use at_hand::VaultsAtHand;
 pub use channel_plan::{At, Code, PlanRow, Refusal};
 pub use channel_view_model::{
     AiringCommand, Airings, CentreRows, Change, Command, DayCommand, DayNumber, Days, Mix, Need,
@@ -50,9 +38,7 @@ pub use channel_view_model::{
     VaultChange, VaultCommand, View,
 };
 pub use channel_view_rules::{decide, decide_part, keeps_rules};
-pub use known::{MOST_DAYS, MOST_ROWS};
 pub use mem::MemRows;
-pub use recent::RecentDays;
 pub use requests::{handle, prepare};
 pub use runs::run;
 pub use timecode::Unavailable;

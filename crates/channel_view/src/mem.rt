@@ -24,14 +24,15 @@ ghost use Rattle.channel_view_model.specs.Need.{AreSourceAnswers, IsFetched, IsP
 ghost use Rattle.channel_view_model.specs.Rules.{KeepsRules};
 ghost use Rattle.channel_view_model.specs.TableText.{table_text, text_at};
 ghost use Rattle.channel_view.specs.Places.{AreSourcesNumbered};
+ghost use Rattle.channel_view.specs.Walks.{has_many, walks_far};
 
 use crate::lending::write_lent_of;
 use crate::mem_days::{airing_found, day_found, just, set_day};
 use asrun_match::DayAsRun;
 use channel_plan::{Code, PlanRow, Refusal, is_plan};
 use channel_view_model::{
-    CentreRows, Change, FEW_ITEMS, Need, Part, RowStore, SourcesAsked, Table, TableFault,
-    VaultChange, View, airings_alone, days_alone, items_asked,
+    CentreRows, Change, FEW_SOURCES, Need, Part, RowStore, SourcesAsked, Table, TableFault,
+    VaultChange, View, airings_alone, days_alone, items_asked, names_asked, sources_of,
 };
 use channel_view_rules::{
     OfChannel, channel_end, channel_rows, channel_start, grants_to, without_channels,
@@ -51,7 +52,7 @@ use vault_core::{Clip, ClipsAsked, ClipsFound, Offer, OwnRows, Put, Tape, TapesA
 const FEW_ROWS: usize = 2_000;
 
 /// A store of lists in memory. Nothing of it outlives the program.
-#[derive(Debug, Drop)]
+#[derive(Drop)]
 pub struct MemRows {
     alloc: Global,
     rows: CentreRows,
@@ -151,7 +152,8 @@ impl MemRows {
         let aired = channel_rows(&self.rows.aired, channel);
         let day = day_found(self.alloc, &plan, days, &need.day)?;
         let items = items_asked(need.items, &day);
-        let sources = self.sources_at(channel, need.sources, items)?;
+        let named = names_asked(need.named);
+        let sources = self.sources_at(channel, need.sources, items, named)?;
         Ok(Part {
             plan,
             tapes: tapes_found(tapes, &need.tapes),
@@ -163,37 +165,41 @@ impl MemRows {
         })
     }
 
-    // The clips and the lent clips that are asked for, of these items.
+    // The clips and the lent clips that are asked for, of these items or these sources.
     fn sources_at(
         &self,
         channel: u16,
         asked: SourcesAsked,
         items: &[Item],
+        named: &[Source],
     ) -> Result<SourcesFound, Unavailable>
         ensures { AreSourcesNumbered channel self.now →
-            IfOk result (λ found. AreSourceAnswers asked items.now (rows_of channel self.now.clips)
+            IfOk result (λ found. AreSourceAnswers asked items.now named.now (rows_of channel self.now.clips)
             (grants_to channel self.now.offers) found.clips.items found.grants.items) }
     {
         match asked {
             SourcesAsked::Nothing => Ok(SourcesFound::nothing(self.alloc)),
             SourcesAsked::One(source) => self.source_at(channel, source),
-            SourcesAsked::OfItems => self.sources_of(channel, items),
-            SourcesAsked::All => self.all_sources(channel),
+            SourcesAsked::OfItems => {
+                let sources = sources_of(self.alloc, items)?;
+                self.sources_named(channel, &sources)
+            }
+            SourcesAsked::Named => self.sources_named(channel, named),
         }
     }
 
-    // What these items name; of many items, all.
-    fn sources_of(&self, channel: u16, items: &[Item]) -> Result<SourcesFound, Unavailable>
+    // What these sources name; of many, all.
+    fn sources_named(&self, channel: u16, sources: &[Source]) -> Result<SourcesFound, Unavailable>
         ensures { AreSourcesNumbered channel self.now →
-            IfOk result (λ found. NamesAlike items.now (rows_of channel self.now.clips)
+            IfOk result (λ found. NamesAlike sources.now (rows_of channel self.now.clips)
             (grants_to channel self.now.offers) found.clips.items found.grants.items) }
     {
-        if items.len() > FEW_ITEMS {
+        if sources.len() > FEW_SOURCES {
             return self.all_sources(channel);
         }
         let mut found = SourcesFound::nothing(self.alloc);
-        for item in items {
-            let named = self.source_at(channel, item.src)?;
+        for source in sources {
+            let named = self.source_at(channel, *source)?;
             found.clips.extend_from_slice(&named.clips)?;
             found.grants.extend_from_slice(&named.grants)?;
         }
@@ -274,9 +280,10 @@ impl MemRows {
         channel_rows(&self.rows.channels, channel).first().copied()
     }
 
-    /// The part that a command needs of what the channel sees, or `None` where it isn't in the plan.
+    /// Of rows that keep the integrity rules, just the part of what the channel sees that a command needs, or `None`
+    /// where the channel isn't in the plan. For want of memory it is [`Unavailable`].
     #[tactic(auto, unfolding(channel_view_model::specs::Centre::view_of))]
-    pub(crate) fn part(&self, channel: u16, need: &Need<'_>) -> Result<Option<Part>, Unavailable>
+    pub fn part(&self, channel: u16, need: &Need<'_>) -> Result<Option<Part>, Unavailable>
         ensures { KeepsRules self.now → IfOk result (IsFetched need.now (view_of channel self.now)) }
     {
         match self.plan_of(channel) {
@@ -285,19 +292,21 @@ impl MemRows {
         }
     }
 
-    /// Whether a look-up that is asked for walks over many of the channel's rows, as one by a number doesn't.
-    pub(crate) fn walks_far(&self, channel: u16, need: &Need<'_>) -> bool {
-        let tapes = channel_rows(&self.rows.tapes, channel).len();
-        let clips = channel_rows(&self.rows.clips, channel).len();
-        let offers = channel_rows(&self.rows.offers, channel).len();
-        (tapes > FEW_ROWS && (need.tapes.barcode.is_some() || need.tapes.slot.is_some()))
-            || (clips > FEW_ROWS && need.clips.umid.is_some())
-            || (offers > FEW_ROWS && need.offers.open_to.is_some())
+    /// Whether a look-up that is asked for walks over more than 2,000 of the channel's rows: a barcode or a slot over
+    /// its tapes, a UMID over its clips, an open offer over its offers. One by a number never does.
+    pub fn walks_far(&self, channel: u16, need: &Need<'_>) -> bool
+        ensures { result ≡ walks_far channel need.now self.now }
+    {
+        let tapes = need.tapes.barcode.is_some() || need.tapes.slot.is_some();
+        (tapes && has_many(&self.rows.tapes, channel))
+            || (need.clips.umid.is_some() && has_many(&self.rows.clips, channel))
+            || (need.offers.open_to.is_some() && has_many(&self.rows.offers, channel))
     }
 
-    /// Writes a table of the channel, and says whether the channel is in the plan.
+    /// Writes a table of the channel, row by row, and says whether the channel is in the plan. Where it isn't, nothing
+    /// is written; at a [`TableFault`] it is a beginning of the table.
     #[tactic(auto, unfolding(channel_view_model::specs::Centre::view_of))]
-    pub(crate) fn write<W: Write>(
+    pub fn write<W: Write>(
         &self,
         channel: u16,
         table: Table,
@@ -360,6 +369,14 @@ impl RowStore for MemRows {
             Change::Airing(airing) => change_airing(self.alloc, &mut self.rows, channel, airing),
         }
     }
+}
+
+// Whether the channel has so many rows in a table that a walk over them takes longer than a look-up by a key.
+fn has_many<T>(table: &[(u16, T)], channel: u16) -> bool
+    requires { is_in_order table.now ≡ true }
+    ensures { result ≡ has_many channel table.now }
+{
+    channel_rows(table, channel).len() > FEW_ROWS
 }
 
 // Whether the channels, and the rows of each table, are in the order of the channels.

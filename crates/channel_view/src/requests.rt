@@ -1,10 +1,12 @@
 //! Stores of the rows of all channels, and a request over any of them.
 ghost use Rattle.std.specs.Prelude.{◌≡◌, ◌≢◌, ℕ, List, Option, true, IfOk, OnOk};
+ghost use Rattle.std.specs.Borrow.{Bor};
 ghost use Rattle.std.specs.Option.{option_map};
 ghost use Rattle.channel_view_model.specs.Seen.{seen_in};
 ghost use Rattle.channel_view_model.specs.Decide.{decision};
 ghost use Rattle.channel_view_model.specs.Centre.{Centre, Request, view_of, reply_to};
-ghost use Rattle.channel_view_model.specs.Need.{asks_a_part, need_of, IsFetched};
+ghost use Rattle.channel_view_model.specs.Need.{asks_a_part, need_of, sources_named, IsFetched};
+ghost use Rattle.playlist_core.specs.declared.source.Source.{Source};
 ghost use Rattle.channel_view_model.specs.declared.view.View.{View};
 ghost use Rattle.channel_view_model.specs.Solo.{hears, events_of, own_part};
 ghost use Rattle.channel_view_model.specs.Rules.{KeepsRules};
@@ -58,7 +60,8 @@ fn prepare_by_part<S: RowStore>(
     ensures stop { S.is_clean store.new → (left : Centre) → S.may_leave store.new left → S.may_leave store.old left }
     ensures sets { S.leaves_sets store.old → S.leaves_sets store.new }
 {
-    let part = store.fetch(channel, &Need::of(command))?;
+    let named = command.sources_named(alloc)?;
+    let part = store.fetch(channel, &Need::of(command, &named))?;
     decided(alloc, part, command)
 }
 
@@ -69,7 +72,8 @@ fn decided(
     command: &Command,
 ) -> Result<Option<(Reply, Change)>, Unavailable>
     requires { asks_a_part command.now ≡ true }
-    ensures { (view : Option View) → IsFetched (need_of command.now) view part →
+    ensures { (view : Option View) → (named : Bor (List Source)) → named.now ≡ sources_named command.now →
+        IsFetched (need_of command.now named) view part →
         IfOk result (λ d. d ≡ option_map (λ v. decision (seen_in v) command.now) view) }
 {
     match part {

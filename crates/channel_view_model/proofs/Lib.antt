@@ -13,6 +13,7 @@ pub mod RuleLemmas
 pub mod ViewLemmas
 pub mod DayWalkLemmas
 pub mod NamedLemmas
+pub mod ReelLemmas
 pub mod AlikeLemmas
 pub mod NeedLemmas
 pub mod SourceLemmas

@@ -1,4 +1,4 @@
--- What the rows that items name find, and what all rows find.
+-- What the rows that sources name find, and what all rows find.
 use Rattle.std.proofs.Common.{◌≡◌, ℕ, ◌+◌, ◌<◌, List, [], ◌∷◌, ◌++◌, length, take, get_or, Bool, true, false, ◌&&◌}
 use Rattle.std.proofs.Common.{refl, sym, ◌∙◌, ap, subst, arith}
 use Rattle.std.specs.Prelude.{◌==◌, find, Option, Some, None, if◌then◌else◌}
@@ -10,18 +10,17 @@ use Rattle.std.proofs.lemmas.List.Elements.{All-nil, All-cons, All-append, All-w
 use Rattle.std.proofs.lemmas.List.Elements.{Contains-append_right}
 use Rattle.vault_core.specs.declared.clip.Clip.{Clip}
 use Rattle.grant_core.specs.declared.grant.Grant.{Grant}
-use Rattle.playlist_core.specs.declared.item.Item.{Item}
 use Rattle.playlist_core.specs.declared.source.Source.{Source}
 use Rattle.playlist_core.specs.declared.source.Source.TheVariants.{Black, Bars, Own as OwnClip, Lent as LentClip}
 use Rattle.playlist_core.specs.Source.{found, seen_of, of_clip, of_grant}
 use Rattle.channel_view_model.specs.Need.{NamesAlike, clips_of, grants_of}
 
 -- all rows find what all rows find
-pub all_alike : (items : List Item) (clips ks : List Clip) (grants gs : List Grant) → ks ≡ clips → gs ≡ grants
-    → NamesAlike items clips grants ks gs
-all_alike items clips ks grants gs all_clips all_grants =
-    subst (λ l. NamesAlike items clips grants l gs) (sym all_clips)
-    (subst (λ l. NamesAlike items clips grants clips l) (sym all_grants)
+pub all_alike : (sources : List Source) (clips ks : List Clip) (grants gs : List Grant) → ks ≡ clips → gs ≡ grants
+    → NamesAlike sources clips grants ks gs
+all_alike sources clips ks grants gs all_clips all_grants =
+    subst (λ l. NamesAlike sources clips grants l gs) (sym all_clips)
+    (subst (λ l. NamesAlike sources clips grants clips l) (sym all_grants)
     (record { named = λ k d lt. refl; own = All-contains_itself clips; lent = All-contains_itself grants }))
 
 -- what is found is one of the rows, and passes
@@ -49,12 +48,12 @@ flat_more f xs k x lt is =
     ∙ sym (flat_map-append f (take k xs) (get_or xs k x ∷ [])) ∙ ap (flat_map f) (sym (take_more xs k x lt))
 
 module _ (clips : List Clip) (grants : List Grant) where
-  -- the rows that items name, item by item
-  abbrev pub clips_named : List Item → List Clip
-  clips_named = flat_map (λ i. clips_of (found (seen_of clips grants) i.src))
+  -- the rows that sources name, one after another
+  abbrev pub clips_named : List Source → List Clip
+  clips_named = flat_map (λ s. clips_of (found (seen_of clips grants) s))
 
-  abbrev pub grants_named : List Item → List Grant
-  grants_named = flat_map (λ i. grants_of (found (seen_of clips grants) i.src))
+  abbrev pub grants_named : List Source → List Grant
+  grants_named = flat_map (λ s. grants_of (found (seen_of clips grants) s))
 
   -- a row in front leaves what is found behind it, where this is what all find
   own_kept : (n : ℕ) (j : Source) (ks : List Clip)
@@ -131,19 +130,19 @@ module _ (clips : List Clip) (grants : List Grant) where
   kept (OwnClip n) j ks gs same = own_kept n j ks same
   kept (LentClip owner n) j ks gs same = lent_kept owner n j gs same
 
-  -- where all find nothing, the rows of items find nothing
+  -- where all find nothing, the rows of sources find nothing
   nothing_found : (s : Source) → found (seen_of [] []) s ≡ None
   nothing_found Black = refl
   nothing_found Bars = refl
   nothing_found (OwnClip n) = refl
   nothing_found (LentClip owner n) = refl
 
-  none_named : (s : Source) (items : List Item) → found (seen_of clips grants) s ≡ None
-      → found (seen_of (clips_named items) (grants_named items)) s ≡ found (seen_of clips grants) s
+  none_named : (s : Source) (sources : List Source) → found (seen_of clips grants) s ≡ None
+      → found (seen_of (clips_named sources) (grants_named sources)) s ≡ found (seen_of clips grants) s
   none_named s [] none = nothing_found s ∙ sym none
-  none_named s (i ∷ is) none = kept s i.src (clips_named is) (grants_named is) (none_named s is none)
+  none_named s (j ∷ js) none = kept s j (clips_named js) (grants_named js) (none_named s js none)
 
-  -- the row that a source names, in front of those of items, is found
+  -- the row that a source names, in front of those of others, is found
   own_here : (n : ℕ) (ks : List Clip)
       → (of_clip (find (λ k. k.n == n) clips) ≡ None → of_clip (find (λ k. k.n == n) ks) ≡ None)
       → of_clip (find (λ k. k.n == n) (clips_of (of_clip (find (λ k. k.n == n) clips)) ++ ks))
@@ -173,29 +172,27 @@ module _ (clips : List Clip) (grants : List Grant) where
           ap (λ b. of_grant (if b then Some g else find (λ x. x.owner == owner && x.offer.n == n) gs))
           (passes (λ (x : Grant). x.owner == owner && x.offer.n == n) grants g is)
 
-  here : (s : Source) (is : List Item)
+  here : (s : Source) (js : List Source)
       → found
-      (seen_of (clips_of (found (seen_of clips grants) s) ++ clips_named is)
-      (grants_of (found (seen_of clips grants) s) ++ grants_named is)) s
+      (seen_of (clips_of (found (seen_of clips grants) s) ++ clips_named js)
+      (grants_of (found (seen_of clips grants) s) ++ grants_named js)) s
       ≡ found (seen_of clips grants) s
-  here Black is = refl
-  here Bars is = refl
-  here (OwnClip n) is = own_here n (clips_named is) (λ none. none_named (OwnClip n) is none ∙ none)
-  here (LentClip owner n) is =
-      lent_here owner n (grants_named is) (λ none. none_named (LentClip owner n) is none ∙ none)
+  here Black js = refl
+  here Bars js = refl
+  here (OwnClip n) js = own_here n (clips_named js) (λ none. none_named (OwnClip n) js none ∙ none)
+  here (LentClip owner n) js =
+      lent_here owner n (grants_named js) (λ none. none_named (LentClip owner n) js none ∙ none)
 
-  each_named : (items : List Item)
-      → All (λ i. found (seen_of (clips_named items) (grants_named items)) i.src ≡ found (seen_of clips grants) i.src)
-      items
-  each_named [] =
-      All-nil (λ (i : Item). found (seen_of [] []) i.src ≡ found (seen_of clips grants) i.src)
-  each_named (i ∷ is) =
-      All-cons
-      (λ j. found (seen_of (clips_named (i ∷ is)) (grants_named (i ∷ is))) j.src ≡ found (seen_of clips grants) j.src) i
-      is (here i.src is)
-      (All-weaker (λ j. found (seen_of (clips_named is) (grants_named is)) j.src ≡ found (seen_of clips grants) j.src)
-      (λ j. found (seen_of (clips_named (i ∷ is)) (grants_named (i ∷ is))) j.src ≡ found (seen_of clips grants) j.src)
-      (λ j same. kept j.src i.src (clips_named is) (grants_named is) same) is (each_named is))
+  each_named : (sources : List Source)
+      → All (λ s. found (seen_of (clips_named sources) (grants_named sources)) s ≡ found (seen_of clips grants) s)
+      sources
+  each_named [] = All-nil (λ (s : Source). found (seen_of [] []) s ≡ found (seen_of clips grants) s)
+  each_named (j ∷ js) =
+      All-cons (λ s. found (seen_of (clips_named (j ∷ js)) (grants_named (j ∷ js))) s ≡ found (seen_of clips grants) s)
+      j js (here j js)
+      (All-weaker (λ s. found (seen_of (clips_named js) (grants_named js)) s ≡ found (seen_of clips grants) s)
+      (λ s. found (seen_of (clips_named (j ∷ js)) (grants_named (j ∷ js))) s ≡ found (seen_of clips grants) s)
+      (λ s same. kept s j (clips_named js) (grants_named js) same) js (each_named js))
 
   -- and each of them is one of all
   clip_seen : (s : Source) → All (Contains clips) (clips_of (found (seen_of clips grants) s))
@@ -230,34 +227,34 @@ module _ (clips : List Clip) (grants : List Grant) where
           All-cons (Contains grants) g [] (one_of (λ (x : Grant). x.owner == owner && x.offer.n == n) grants g is)
           (All-nil (Contains grants))
 
-  clips_seen : (items : List Item) → All (Contains clips) (clips_named items)
+  clips_seen : (sources : List Source) → All (Contains clips) (clips_named sources)
   clips_seen [] = All-nil (Contains clips)
-  clips_seen (i ∷ is) =
-      All-append (Contains clips) (clips_of (found (seen_of clips grants) i.src)) (clips_named is) (clip_seen i.src)
-      (clips_seen is)
+  clips_seen (j ∷ js) =
+      All-append (Contains clips) (clips_of (found (seen_of clips grants) j)) (clips_named js) (clip_seen j)
+      (clips_seen js)
 
-  grants_seen : (items : List Item) → All (Contains grants) (grants_named items)
+  grants_seen : (sources : List Source) → All (Contains grants) (grants_named sources)
   grants_seen [] = All-nil (Contains grants)
-  grants_seen (i ∷ is) =
-      All-append (Contains grants) (grants_of (found (seen_of clips grants) i.src)) (grants_named is)
-      (grant_seen i.src) (grants_seen is)
+  grants_seen (j ∷ js) =
+      All-append (Contains grants) (grants_of (found (seen_of clips grants) j)) (grants_named js) (grant_seen j)
+      (grants_seen js)
 
-  pub named_alike : (items : List Item) (ks : List Clip) (gs : List Grant) → ks ≡ clips_named items
-      → gs ≡ grants_named items → NamesAlike items clips grants ks gs
-  named_alike items ks gs clips_are grants_are =
-      subst (λ l. NamesAlike items clips grants l gs) (sym clips_are)
-      (subst (λ l. NamesAlike items clips grants (clips_named items) l) (sym grants_are)
-      (record { named = each_named items; own = clips_seen items; lent = grants_seen items }))
+  pub named_alike : (sources : List Source) (ks : List Clip) (gs : List Grant) → ks ≡ clips_named sources
+      → gs ≡ grants_named sources → NamesAlike sources clips grants ks gs
+  named_alike sources ks gs clips_are grants_are =
+      subst (λ l. NamesAlike sources clips grants l gs) (sym clips_are)
+      (subst (λ l. NamesAlike sources clips grants (clips_named sources) l) (sym grants_are)
+      (record { named = each_named sources; own = clips_seen sources; lent = grants_seen sources }))
 
-  -- one item more
-  pub clips_more : (items : List Item) (k : ℕ) (i : Item) (ks one : List Clip) → k < length items
-      → i ≡ get_or items k i → ks ≡ clips_named (take k items) → one ≡ clips_of (found (seen_of clips grants) i.src)
-      → ks ++ one ≡ clips_named (take (k + 1) items)
-  clips_more items k i ks one lt is front its =
-      (λ j. front j ++ its j) ∙ flat_more (λ x. clips_of (found (seen_of clips grants) x.src)) items k i lt is
+  -- one source more
+  pub clips_more : (sources : List Source) (k : ℕ) (s : Source) (ks one : List Clip) → k < length sources
+      → s ≡ get_or sources k s → ks ≡ clips_named (take k sources) → one ≡ clips_of (found (seen_of clips grants) s)
+      → ks ++ one ≡ clips_named (take (k + 1) sources)
+  clips_more sources k s ks one lt is front its =
+      (λ j. front j ++ its j) ∙ flat_more (λ x. clips_of (found (seen_of clips grants) x)) sources k s lt is
 
-  pub grants_more : (items : List Item) (k : ℕ) (i : Item) (gs one : List Grant) → k < length items
-      → i ≡ get_or items k i → gs ≡ grants_named (take k items)
-      → one ≡ grants_of (found (seen_of clips grants) i.src) → gs ++ one ≡ grants_named (take (k + 1) items)
-  grants_more items k i gs one lt is front its =
-      (λ j. front j ++ its j) ∙ flat_more (λ x. grants_of (found (seen_of clips grants) x.src)) items k i lt is
+  pub grants_more : (sources : List Source) (k : ℕ) (s : Source) (gs one : List Grant) → k < length sources
+      → s ≡ get_or sources k s → gs ≡ grants_named (take k sources)
+      → one ≡ grants_of (found (seen_of clips grants) s) → gs ++ one ≡ grants_named (take (k + 1) sources)
+  grants_more sources k s gs one lt is front its =
+      (λ j. front j ++ its j) ∙ flat_more (λ x. grants_of (found (seen_of clips grants) x)) sources k s lt is

@@ -1,11 +1,13 @@
 -- What a command needs of the rows that its channel sees, and the part of them that holds this.
-use Rattle.std.specs.Prelude.{◌≡◌, ℕ, List, [], ◌∷◌, Bool, true, false, Option, Some, None, ◌⊎◌}
+use Rattle.std.specs.Prelude.{◌≡◌, ℕ, List, [], ◌∷◌, Bool, true, false, Option, Some, None, ◌⊎◌, map}
+use Rattle.std.specs.Borrow.{Bor}
 use Rattle.std.specs.Option.{option_map}
-use Rattle.std.specs.List.{All as Each, Contains}
-use Rattle.std.proofs.Common.{Bor, inl, inr}
+use Rattle.std.specs.List.{All as Each, Contains, filter_map, slice_split}
+use Rattle.std.proofs.Common.{inl, inr}
 use Rattle.vault_core.specs.declared.clip.Clip.{Clip}
 use Rattle.grant_core.specs.declared.grant.Grant.{Grant}
 use Rattle.std.specs.Bool.{⊤}
+use Rattle.edl.specs.Text.{is_blank}
 use Rattle.vault_core.specs.Asked.{nothing_asked, AreTapeAnswers, no_clips_asked, AreClipAnswers}
 use Rattle.vault_core.specs.Asked.{tapes_asked, tapes_asked_for_clips, clips_asked}
 use Rattle.channel_view_model.specs.declared.need.Need.{Need}
@@ -24,7 +26,7 @@ use Rattle.vault_core.specs.declared.asked_tapes.TapesAsked.{TapesAsked}
 use Rattle.vault_core.specs.declared.asked_clips.ClipsAsked.{ClipsAsked}
 use Rattle.grant_core.specs.declared.asked_offers.OffersAsked.{OffersAsked}
 use Rattle.channel_view_model.specs.declared.need.SourcesAsked.{SourcesAsked}
-use Rattle.channel_view_model.specs.declared.need.SourcesAsked.TheVariants.{Nothing, One, OfItems, All}
+use Rattle.channel_view_model.specs.declared.need.SourcesAsked.TheVariants.{Nothing, One, OfItems, Named}
 use Rattle.channel_view_model.specs.declared.day_command.DayCommand.{DayCommand}
 use Rattle.channel_view_model.specs.declared.day_command.DayCommand.TheVariants as days
 use Rattle.asrun_match.specs.declared.day.DayAsRun.{DayAsRun}
@@ -38,7 +40,16 @@ use Rattle.channel_view_model.specs.Seen.{seen_in}
 -- questions of own rows alone
 abbrev pub of_own : TapesAsked → ClipsAsked → OffersAsked → Need
 of_own tapes clips offers =
-    record { tapes = tapes; clips = clips; offers = offers; day = None; items = None; aired = None; sources = Nothing }
+    record {
+      tapes = tapes;
+      clips = clips;
+      offers = offers;
+      day = None;
+      items = None;
+      aired = None;
+      sources = Nothing;
+      named = None;
+    }
 
 -- what each command on own rows asks
 abbrev pub own_need : VaultCommand → Need
@@ -54,6 +65,20 @@ asks_a_part (commands.Airing n q) = true
 asks_a_part commands.PlanRow = true
 asks_a_part (commands.Table table) = false
 
+-- the sources that words of a text name: so each reel of a list's events
+abbrev pub sources_in : List ℕ → List Source
+sources_in text = filter_map source_of_reel (slice_split is_blank text)
+
+-- the sources that a command on a day names, where it may name many: those of a revision's items, and those in a list
+abbrev pub sources_said : DayCommand → List Source
+sources_said (days.Revise said) = filter_map (λ i. source_of_reel i.source) said.add
+sources_said (days.Import list ignore) = sources_in list
+sources_said _ = []
+
+abbrev pub sources_named : Command → List Source
+sources_named (commands.Day n q) = sources_said q
+sources_named _ = []
+
 -- which of the clips and the lent clips a command on a day asks for
 abbrev pub one_source : Option Source → SourcesAsked
 one_source None = Nothing
@@ -63,36 +88,28 @@ abbrev pub sources_asked : DayCommand → SourcesAsked
 sources_asked days.Open = Nothing
 sources_asked (days.AddItem at frames source_in mix source) = one_source (source_of_reel source)
 sources_asked (days.RemoveItem n) = Nothing
-sources_asked (days.Revise said) = All
-sources_asked (days.Import list ignore) = All
+sources_asked (days.Revise said) = Named
+sources_asked (days.Import list ignore) = Named
 sources_asked days.Seal = OfItems
 sources_asked days.WritePlan = Nothing
 sources_asked days.ExportList = OfItems
 
-abbrev pub need_of : Command → Need
-need_of (commands.Vault q) = own_need q
-need_of (commands.Day n q) =
-    record {
-      tapes = nothing_asked;
-      clips = no_clips_asked;
-      offers = no_offers_asked;
+-- what each command on what was aired of a day asks
+abbrev pub airing_need : ℕ → Need
+airing_need n = record (of_own nothing_asked no_clips_asked no_offers_asked) { day = Some n; aired = Some n }
+
+-- the need of a command that names these sources
+abbrev pub need_of : Command → Bor (List Source) → Need
+need_of (commands.Vault q) named = own_need q
+need_of (commands.Day n q) named =
+    record (of_own nothing_asked no_clips_asked no_offers_asked) {
       day = Some n;
-      items = None;
-      aired = None;
       sources = sources_asked q;
+      named = Some named;
     }
-need_of (commands.Airing n q) =
-    record {
-      tapes = nothing_asked;
-      clips = no_clips_asked;
-      offers = no_offers_asked;
-      day = Some n;
-      items = None;
-      aired = Some n;
-      sources = Nothing;
-    }
-need_of commands.PlanRow = of_own nothing_asked no_clips_asked no_offers_asked
-need_of (commands.Table table) = of_own nothing_asked no_clips_asked no_offers_asked
+need_of (commands.Airing n q) named = airing_need n
+need_of commands.PlanRow named = of_own nothing_asked no_clips_asked no_offers_asked
+need_of (commands.Table table) named = of_own nothing_asked no_clips_asked no_offers_asked
 
 -- just the clip, or just the lent clip, that was found
 abbrev pub clips_of : Option (Clip ⊎ Grant) → List Clip
@@ -129,21 +146,32 @@ IsSourceAnswer source clips grants part_clips part_grants =
     (part_clips ≡ clips_of (found (seen_of clips grants) source))
     × (part_grants ≡ grants_of (found (seen_of clips grants) source))
 
--- What each of the items names is found in the part as among all, and each row of the part is one of all.
-pub record NamesAlike (items : List Item) (clips : List Clip) (grants : List Grant) (part_clips : List Clip)
+-- What each of the sources names is found in the part as among all, and each row of the part is one of all.
+pub record NamesAlike (sources : List Source) (clips : List Clip) (grants : List Grant) (part_clips : List Clip)
     (part_grants : List Grant) : Type 0 where
-  pub named : Each (λ i. found (seen_of part_clips part_grants) i.src ≡ found (seen_of clips grants) i.src) items
+  pub named : Each (λ s. found (seen_of part_clips part_grants) s ≡ found (seen_of clips grants) s) sources
   pub own : Each (Contains clips) part_clips
   pub lent : Each (Contains grants) part_grants
 
--- of these clips and lent clips none, just the one that the source names, what these items name, or all
-abbrev pub AreSourceAnswers : SourcesAsked → List Item → List Clip → List Grant → List Clip → List Grant → Type 0
-AreSourceAnswers Nothing items clips grants part_clips part_grants = (part_clips ≡ []) × (part_grants ≡ [])
-AreSourceAnswers (One source) items clips grants part_clips part_grants =
+-- the sources of items
+abbrev pub sources_of : List Item → List Source
+sources_of = map (λ i. i.src)
+
+-- the sources that a need names
+abbrev pub names_asked : Option (Bor (List Source)) → List Source
+names_asked None = []
+names_asked (Some sources) = sources.now
+
+-- of these clips and lent clips none, just the one that the source names, or what these items or these sources name
+abbrev pub AreSourceAnswers : SourcesAsked → List Item → List Source → List Clip → List Grant → List Clip → List Grant
+    → Type 0
+AreSourceAnswers Nothing items sources clips grants part_clips part_grants = (part_clips ≡ []) × (part_grants ≡ [])
+AreSourceAnswers (One source) items sources clips grants part_clips part_grants =
     IsSourceAnswer source clips grants part_clips part_grants
-AreSourceAnswers OfItems items clips grants part_clips part_grants =
-    NamesAlike items clips grants part_clips part_grants
-AreSourceAnswers All items clips grants part_clips part_grants = (part_clips ≡ clips) × (part_grants ≡ grants)
+AreSourceAnswers OfItems items sources clips grants part_clips part_grants =
+    NamesAlike (sources_of items) clips grants part_clips part_grants
+AreSourceAnswers Named items sources clips grants part_clips part_grants =
+    NamesAlike sources clips grants part_clips part_grants
 
 -- The part holds the answers of what the channel sees to the questions of the need, and no row beside them; of clips
 -- and lent clips that items are to name, none beside those that are seen.
@@ -154,8 +182,8 @@ pub record IsPartOf (need : Need) (view : View) (part : Part) : Type 0 where
   pub offers : AreOfferAnswers need.offers (seen_in view).own.offers part.offers
   pub day : IsDayAnswer need.day (seen_in view).own.plan (seen_in view).days part.day
   pub aired : IsAiringAnswer need.aired (seen_in view).own.plan (seen_in view).aired part.aired
-  pub sources : AreSourceAnswers need.sources (items_asked need.items part.day) view.own.clips view.lent
-      part.sources.clips.items part.sources.grants.items
+  pub sources : AreSourceAnswers need.sources (items_asked need.items part.day) (names_asked need.named) view.own.clips
+      view.lent part.sources.clips.items part.sources.grants.items
 
 -- a part of what the channel sees, or none of either
 abbrev pub IsFetched : Need → Option View → Option Part → Type 0

@@ -9,7 +9,7 @@ use timecode::Unavailable;
 
 /// What was aired of broadcast days of one channel, by the numbers of the days. A day of which nothing was aired yet
 /// has no row.
-#[derive(Debug, Drop)]
+#[derive(Drop)]
 pub struct Airings {
     airings: Vec<DayAsRun>,
 }

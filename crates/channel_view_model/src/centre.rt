@@ -7,7 +7,7 @@ use vault_core::{Clip, Offer, Tape};
 
 /// One set of rows of all channels: the plan, and each table in the order of the channels and, within one, of the row
 /// numbers. Each row of a table stands beside its channel.
-#[derive(Debug, Drop)]
+#[derive(Drop)]
 pub struct CentreRows {
     pub channels: Vec<PlanRow>,
     pub tapes: Vec<(u16, Tape)>,

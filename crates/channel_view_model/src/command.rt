@@ -10,7 +10,7 @@ use playlist_edl::Imported;
 use vault_core::{Clip, ClipCommand, Offer, Put, Tape, TapeCommand};
 
 /// A command on a channel's own rows: it puts a row of this kind.
-#[derive(Debug, Drop)]
+#[derive(Drop)]
 pub enum VaultCommand {
     Tape(TapeCommand),
     Clip(ClipCommand),
@@ -18,7 +18,7 @@ pub enum VaultCommand {
 }
 
 /// A command on what was aired of one broadcast day.
-#[derive(Debug, Drop)]
+#[derive(Drop)]
 pub enum AiringCommand {
     /// Take the batch with this number, as-run rows as CSV without a header.
     TakeBatch { number: u32, rows: Upload },
@@ -27,7 +27,7 @@ pub enum AiringCommand {
 }
 
 /// A command of one channel.
-#[derive(Debug, Drop)]
+#[derive(Drop)]
 pub enum Command {
     /// On its own rows.
     Vault(VaultCommand),
@@ -86,7 +86,7 @@ pub enum Reply {
 
 /// A change of a channel's own rows: this row stands among those of its kind, in the place of the one with its number, or
 /// as one more.
-#[derive(Debug, PartialEq, Eq, Drop)]
+#[derive(PartialEq, Eq, Drop)]
 pub enum VaultChange {
     Tape(Tape),
     Clip(Clip),
@@ -94,7 +94,7 @@ pub enum VaultChange {
 }
 
 /// What a command does to its channel's rows.
-#[derive(Debug, Drop)]
+#[derive(Drop)]
 pub enum Change {
     Nothing,
     /// A row is put so.

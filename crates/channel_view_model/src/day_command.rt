@@ -6,7 +6,7 @@ use std::marker::Model;
 use vault_core::RawText;
 
 /// The number of a broadcast day, 1 to 99,999.
-#[derive(Clone, Copy, Debug)]
+#[derive(Clone, Copy)]
 pub struct DayNumber {
     number: u32,
 }
@@ -49,7 +49,7 @@ impl DayNumber {
 }
 
 /// The frames over which the picture changes to an item, at most 999.
-#[derive(Clone, Copy, Debug)]
+#[derive(Clone, Copy)]
 pub struct Mix {
     frames: u16,
 }
@@ -94,7 +94,7 @@ impl Mix {
 }
 
 /// An edit list or a batch as it was handed in: fewer than 4,294,967,296 bytes.
-#[derive(Debug, Drop)]
+#[derive(Drop)]
 pub struct Upload {
     bytes: Vec<u8>,
 }
@@ -133,7 +133,7 @@ impl Upload {
 }
 
 /// A command on one broadcast day.
-#[derive(Debug, Drop)]
+#[derive(Drop)]
 pub enum DayCommand {
     /// Open the day.
     Open,

@@ -8,7 +8,7 @@ use std::marker::Model;
 use timecode::Unavailable;
 
 /// Broadcast days of one channel, by number.
-#[derive(Debug, Drop)]
+#[derive(Drop)]
 pub struct Days {
     days: Vec<DayPlan>,
 }

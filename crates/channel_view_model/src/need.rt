@@ -2,9 +2,9 @@
 //!
 //! A decision is given the rows that answer and the command alone. So a text of the command is read here, to ask, and once
 //! more where it is decided.
-ghost use Rattle.std.specs.Prelude.{◌≡◌, true};
+ghost use Rattle.std.specs.Prelude.{◌≡◌, true, IfOk};
 ghost use Rattle.channel_view_model.specs.Need.{own_need, need_of, asks_a_part, items_asked, sources_asked};
-ghost use Rattle.channel_view_model.specs.Need.{of_own as own_alone};
+ghost use Rattle.channel_view_model.specs.Need.{of_own as own_alone, names_asked, sources_of};
 ghost use Rattle.vault_core.specs.Asked.{no_clips_asked, nothing_asked};
 ghost use Rattle.grant_core.specs.Asked.{no_offers_asked};
 
@@ -12,25 +12,28 @@ use crate::command::{Command, VaultCommand};
 use crate::day_command::{DayCommand, DayNumber};
 use grant_core::OffersAsked;
 use playlist_core::{DayPlan, Item, Source};
+use std::alloc::Global;
+use timecode::Unavailable;
 use vault_core::{ClipsAsked, TapesAsked};
 
-/// The most items that a store answers one by one. To look a row up by its number costs as much as to read three in
-/// order, so these cost at most what 200 rows do; for more items it reads all rows.
-pub const FEW_ITEMS: usize = 64;
+/// The most sources that a store answers one by one. To look a row up by its number costs as much as to read three in
+/// order, so these cost at most what 200 rows do; for more sources it reads all rows.
+pub const FEW_SOURCES: usize = 64;
 
 /// Which of the clips and the lent clips that items may show a command asks for.
-#[derive(Clone, Copy, Debug, PartialEq, Eq)]
+#[derive(Clone, Copy, PartialEq, Eq)]
 pub enum SourcesAsked {
     Nothing,
     /// What this source names.
     One(Source),
     /// What each item of the day names. More of what is seen may be answered, up to all.
     OfItems,
-    All,
+    /// What each of the sources names that the command does. More may be answered too.
+    Named,
 }
 
 /// The questions that a command asks of the rows that its channel sees, beside its row of the plan.
-#[derive(Clone, Copy, Debug)]
+#[derive(Clone, Copy)]
 pub struct Need<'a> {
     /// Of its tapes.
     pub tapes: TapesAsked,
@@ -46,19 +49,23 @@ pub struct Need<'a> {
     pub aired: Option<DayNumber>,
     /// Of the clips and the lent clips that items may show.
     pub sources: SourcesAsked,
+    /// The sources that the command names.
+    pub named: Option<&'a [Source]>,
 }
 
 impl<'a> Need<'a> {
-    /// What this command asks, which no table is. Its reply and its change rest on the answers alone.
-    pub fn of(command: &Command) -> Need<'a>
+    /// What this command asks, which no table is, and which names these sources
+    /// ([`Command::sources_named`](crate::Command::sources_named)). Its reply and its change rest on the answers alone.
+    pub fn of(command: &Command, named: &'a [Source]) -> Need<'a>
         requires { asks_a_part command.now ≡ true }
-        ensures { result ≡ need_of command.now }
+        ensures { result ≡ need_of command.now named.entry }
     {
         match command {
             Command::Vault(own) => need_of_own(own),
             Command::Day(day, asked) => Need {
                 day: Some(*day),
                 sources: sources_asked(asked),
+                named: Some(named),
                 ..nothing()
             },
             Command::Airing(number, _) => Need {
@@ -117,6 +124,7 @@ fn of_own<'a>(tapes: TapesAsked, clips: ClipsAsked, offers: OffersAsked) -> Need
         items: None,
         aired: None,
         sources: SourcesAsked::Nothing,
+        named: None,
     }
 }
 
@@ -128,7 +136,7 @@ fn sources_asked(command: &DayCommand) -> SourcesAsked
             Some(source) => SourcesAsked::One(source),
             None => SourcesAsked::Nothing,
         },
-        DayCommand::Revise { .. } | DayCommand::Import { .. } => SourcesAsked::All,
+        DayCommand::Revise { .. } | DayCommand::Import { .. } => SourcesAsked::Named,
         DayCommand::Seal | DayCommand::ExportList => SourcesAsked::OfItems,
         DayCommand::Open | DayCommand::RemoveItem { .. } | DayCommand::WritePlan => {
             SourcesAsked::Nothing
@@ -145,4 +153,21 @@ pub fn items_asked<'a>(items: Option<&'a [Item]>, day: &'a Option<DayPlan>) -> &
         (None, Some(day)) => day.items(),
         (None, None) => &[],
     }
+}
+
+/// The sources that a need names, if it names some.
+pub fn names_asked<'a>(named: Option<&'a [Source]>) -> &'a [Source]
+    ensures { result.now ≡ names_asked named.entry }
+{
+    match named {
+        Some(sources) => sources,
+        None => &[],
+    }
+}
+
+/// The sources of items, one after another.
+pub fn sources_of(alloc: Global, items: &[Item]) -> Result<Vec<Source>, Unavailable>
+    ensures { IfOk result (λ sources. sources.items ≡ sources_of items.now) }
+{
+    Ok(items.iter().map(|item| item.src).collect(alloc)?)
 }

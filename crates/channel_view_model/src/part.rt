@@ -7,7 +7,7 @@ use vault_core::{ClipsFound, TapesFound};
 
 /// A channel's row of the plan, and just the rows and counts that answer a [`Need`](crate::Need); of the clips and the
 /// lent clips that items name, more may be there.
-#[derive(Debug, Drop)]
+#[derive(Drop)]
 pub struct Part {
     pub plan: PlanRow,
     /// Of its tapes.

@@ -11,7 +11,7 @@ use vault_core::RawText;
 /// An item that a revision puts in, as it is said. `at` is the label at which it is aired, `frames` its length, `source`
 /// the reel of what it shows and `source_in` the label of its first source frame. With the number of a wipe it is this
 /// wipe; without, it is a dissolve with a mix, and a cut without one.
-#[derive(Debug, Drop)]
+#[derive(Drop)]
 pub struct SaidItem {
     pub at: RawText,
     pub frames: u32,
@@ -54,7 +54,7 @@ fn are_in_range(items: &[SaidItem]) -> bool
 }
 
 /// The numbers of items that are taken out of a day, and items that are put in: at most 9,999 of each.
-#[derive(Debug, Drop)]
+#[derive(Drop)]
 pub struct Revision {
     remove: Vec<u32>,
     add: Vec<SaidItem>,

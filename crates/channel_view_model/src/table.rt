@@ -6,7 +6,7 @@ use std::marker::Model;
 use timecode::Unavailable;
 
 /// A table of one channel.
-#[derive(Clone, Copy, Debug, PartialEq, Eq)]
+#[derive(Clone, Copy, PartialEq, Eq)]
 pub enum Table {
     /// Its tapes.
     Vault,

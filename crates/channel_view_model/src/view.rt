@@ -4,6 +4,7 @@ ghost use Rattle.std.specs.Option.{option_map};
 ghost use Rattle.vault_core.specs.Questions.{listed};
 ghost use Rattle.playlist_core.specs.Source.{row_seen};
 ghost use Rattle.playlist_core.specs.declared.item.Item.{Item};
+ghost use Rattle.playlist_core.specs.declared.source.Source.{Source};
 ghost use Rattle.channel_view_model.specs.Airings.{no_airing};
 ghost use Rattle.channel_view_model.specs.Need.{AreSourceAnswers, IsAiringAnswer, IsDayAnswer, IsPartOf, clips_of};
 ghost use Rattle.channel_view_model.specs.Need.{grants_of};
@@ -22,7 +23,7 @@ use timecode::Unavailable;
 use vault_core::OwnRows;
 
 /// All that one channel sees.
-#[derive(Debug, Drop)]
+#[derive(Drop)]
 pub struct View {
     pub own: OwnRows,
     /// Its broadcast days, by number.
@@ -80,10 +81,10 @@ impl View {
         }
     }
 
-    // The clips and the lent clips that are asked for, whatever the items are: all, where these name some.
+    // The clips and the lent clips that are asked for, whatever is named: all, where more than one source may be.
     fn sources(&self, alloc: Global, asked: SourcesAsked) -> Result<SourcesFound, Unavailable>
-        ensures { IfOk result (λ found. (items : List Item) → AreSourceAnswers asked items self.now.own.clips
-            self.now.lent found.clips.items found.grants.items) }
+        ensures { IfOk result (λ found. (items : List Item) → (named : List Source) → AreSourceAnswers asked items named
+            self.now.own.clips self.now.lent found.clips.items found.grants.items) }
     {
         match asked {
             SourcesAsked::Nothing => Ok(SourcesFound::nothing(alloc)),
@@ -91,7 +92,7 @@ impl View {
                 let rows = SourceRows::of(self.own.clips(), self.lent.grants());
                 single_source(alloc, rows.find(&source))
             }
-            SourcesAsked::OfItems | SourcesAsked::All => Ok(SourcesFound {
+            SourcesAsked::OfItems | SourcesAsked::Named => Ok(SourcesFound {
                 clips: Vec::from_slice(alloc, self.own.clips())?,
                 grants: Vec::from_slice(alloc, self.lent.grants())?,
             }),

@@ -6,3 +6,4 @@ mod ViewRuleLemmas
 pub mod ItemLemmas
 pub mod LenderLemmas
 pub mod RunLemmas
+mod LentLemmas

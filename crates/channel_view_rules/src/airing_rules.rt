@@ -11,7 +11,7 @@ ghost use Rattle.channel_view_model.specs.Rules.{is_airing_of};
 ghost use Rattle.channel_view_model.specs.Rules.{is_sealed, numbers_rise};
 
 use crate::bisecting::channel_rows;
-use crate::day_rules::is_table_of;
+use crate::day_rules::{OfDay, is_table_of};
 use asrun_match::DayAsRun;
 use channel_plan::PlanRow;
 use channel_view_model::CentreRows;
@@ -70,32 +70,6 @@ fn are_airings_of(plan: &PlanRow, days: &[(u16, DayPlan)], airings: &[(u16, DayA
         last = row.1.day;
     }
     true
-}
-
-/// A day, with its channel or without.
-pub(crate) trait OfDay {
-    ghost use Rattle.playlist_core.specs.Day.{Day};
-
-    ghost day_of: { Self → Day };
-
-    fn day(&self) -> &DayPlan
-        ensures { result.now ≡ day_of self.now };
-}
-
-impl OfDay for DayPlan {
-    ghost day_of = { λ d. d };
-
-    fn day(&self) -> &DayPlan {
-        self
-    }
-}
-
-impl OfDay for (u16, DayPlan) {
-    ghost day_of = { λ r. r.1 };
-
-    fn day(&self) -> &DayPlan {
-        &self.1
-    }
 }
 
 /// Whether this was aired of a sealed one of these days of the plan's channel, by at least one batch.

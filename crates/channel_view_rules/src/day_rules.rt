@@ -1,35 +1,41 @@
 //! The test of the days of a whole set by the integrity rules.
-ghost use Rattle.std.specs.Prelude.{◌≡◌, ◌↔◌, ◌==◌, true, IfOk, IsTrue};
+ghost use Rattle.std.specs.Prelude.{◌≡◌, ◌↔◌, ◌==◌, true, map, IfOk, IsTrue};
 ghost use Rattle.std.specs.List.{list_all, AllByRecursion};
+ghost use Rattle.std.specs.List.Sorted.{IsNonDecreasingBy};
 ghost use Rattle.playlist_core.specs.Day.{KeepsDayRules};
 ghost use Rattle.std.specs.Option.{option_map};
 ghost use Rattle.channel_plan.specs.Plan.{is_plan_in_order};
 ghost use Rattle.playlist_core.specs.Source.{row_seen};
-ghost use Rattle.channel_view_model.specs.Tables.{rows_of};
-ghost use Rattle.channel_view_model.specs.Seen.{grants_to};
+ghost use Rattle.channel_view_model.specs.Tables.{is_in_order};
+ghost use Rattle.channel_view_model.specs.Seen.{grant_of, grants_to};
 ghost use Rattle.channel_view_model.specs.Rules.{KeepsDays, are_days_of, has_days, holds, is_day_of, is_planned};
-ghost use Rattle.channel_view_model.specs.Rules.{is_table_of};
+ghost use Rattle.channel_view_model.specs.Rules.{are_tables, is_table_of};
 ghost use Rattle.channel_view_model.specs.Rules.{row_holds, source_holds};
+ghost use Rattle.channel_view_rules.specs.Lent.{LendsAs};
 
+use crate::bisecting::{OfChannel, channel_rows};
+use crate::rules::without_channels;
 use channel_plan::PlanRow;
 use channel_view_model::CentreRows;
 use grant_core::Grant;
 use playlist_core::{DayPlan, DayState, Item, Source, SourceRow, SourceRows, Sources};
 use std::alloc::Global;
 use timecode::{Unavailable, day_frames};
-use vault_core::{Clip, Offer};
+use vault_core::Offer;
 
 /// Whether the days are a table of the plan's channels, and each channel's have rising numbers and show what is there.
 pub(crate) fn keeps_days(alloc: Global, rows: &CentreRows) -> Result<bool, Unavailable>
-    requires { is_plan_in_order rows.now.channels ≡ true }
+    requires plan { is_plan_in_order rows.now.channels ≡ true }
+    requires tables { are_tables rows.now ≡ true }
     ensures { IfOk result (λ b. IsTrue b ↔ KeepsDays rows.now) }
 {
     keep_the_rules(&rows.days);
     if !is_table_of(&rows.channels, &rows.days) {
         return Ok(false);
     }
+    let lent = lent_by_channel(alloc, &rows.offers)?;
     for plan in &rows.channels {
-        if !has_days(alloc, rows, plan)? {
+        if !has_days(alloc, rows, &lent, plan)? {
             return Ok(false);
         }
     }
@@ -65,26 +71,58 @@ fn is_planned(channels: &[PlanRow], channel: u16) -> bool
     channels.iter().any(|p| p.ch == channel)
 }
 
-fn has_days(alloc: Global, rows: &CentreRows, plan: &PlanRow) -> Result<bool, Unavailable>
-    ensures { IfOk result (λ b. b ≡ has_days rows.now plan.now.ch plan.now) }
-{
-    let clips = clips_of(alloc, &rows.clips, plan.ch)?;
-    let grants = grants_to(alloc, &rows.offers, plan.ch)?;
-    let sources = SourceRows::of(&clips, &grants);
-    Ok(are_days_of(plan, &sources, &rows.days))
+impl OfChannel for Grant {
+    ghost channel_of = { λ g. g.offer.grantee };
+
+    fn channel(&self) -> u16 {
+        self.offer.grantee
+    }
 }
 
-// The clips of this channel.
-fn clips_of(alloc: Global, clips: &[(u16, Clip)], channel: u16) -> Result<Vec<Clip>, Unavailable>
-    ensures { IfOk result (λ v. v.items ≡ rows_of channel clips.now) }
+// What is lent to each channel, by owner and number, channel after channel: so no channel looks through all offers.
+fn lent_by_channel(alloc: Global, offers: &[(u16, Offer)]) -> Result<Vec<Grant>, Unavailable>
+    ensures order { IfOk result (λ v. IsNonDecreasingBy (λ g. g.offer.grantee) v.items) }
+    ensures lent { IfOk result (λ v. LendsAs v.items offers.now) }
 {
-    Ok(
-        clips
-            .iter()
-            .filter(|row| row.0 == channel)
-            .map(|row| row.1)
-            .collect(alloc)?,
-    )
+    let mut lent = grants_of(alloc, offers)?;
+    lent.sort_by_key(|grant| grant.offer.grantee)?;
+    Ok(lent)
+}
+
+// Each offer as what it lends.
+fn grants_of(alloc: Global, offers: &[(u16, Offer)]) -> Result<Vec<Grant>, Unavailable>
+    ensures { IfOk result (λ v. v.items ≡ map grant_of offers.now) }
+{
+    let grants = offers
+        .iter()
+        .map(|row| Grant {
+            owner: row.0,
+            offer: row.1,
+        })
+        .collect(alloc)?;
+    Ok(grants)
+}
+
+// Whether a channel's days keep the rules. Where it has none, its clips are not looked at.
+fn has_days(
+    alloc: Global,
+    rows: &CentreRows,
+    lent: &[Grant],
+    plan: &PlanRow,
+) -> Result<bool, Unavailable>
+    requires clips { is_in_order rows.now.clips ≡ true }
+    requires days { is_in_order rows.now.days ≡ true }
+    requires order { IsNonDecreasingBy (λ g. g.offer.grantee) lent.now }
+    requires lent { LendsAs lent.now rows.now.offers }
+    ensures { IfOk result (λ b. b ≡ has_days rows.now plan.now.ch plan.now) }
+{
+    let days = channel_rows(&rows.days, plan.ch);
+    if days.is_empty() {
+        return Ok(true);
+    }
+    let clips = without_channels(alloc, channel_rows(&rows.clips, plan.ch))?;
+    let sources = SourceRows::of(&clips, channel_rows(lent, plan.ch));
+    Ok(are_days_of(plan, &sources, days))
 }
 
 /// The clips that are lent to this channel, by owner and number.
@@ -106,24 +144,49 @@ pub fn grants_to(
     Ok(grants)
 }
 
-// Whether the days of this channel have rising numbers and show what is there.
-fn are_days_of<S: Sources>(plan: &PlanRow, sources: &S, days: &[(u16, DayPlan)]) -> bool
-    ensures { result ≡ are_days_of plan.now (S.seen sources.now) 0 (rows_of plan.now.ch days.now) }
+/// A day, with its channel or without.
+pub(crate) trait OfDay {
+    ghost use Rattle.playlist_core.specs.Day.{Day};
+
+    ghost day_of: { Self → Day };
+
+    fn day(&self) -> &DayPlan
+        ensures { result.now ≡ day_of self.now };
+}
+
+impl OfDay for DayPlan {
+    ghost day_of = { λ d. d };
+
+    fn day(&self) -> &DayPlan {
+        self
+    }
+}
+
+impl OfDay for (u16, DayPlan) {
+    ghost day_of = { λ r. r.1 };
+
+    fn day(&self) -> &DayPlan {
+        &self.1
+    }
+}
+
+/// Whether the days of a channel have rising numbers and show what is there.
+pub(crate) fn are_days_of<S: Sources, D: OfDay>(plan: &PlanRow, sources: &S, days: &[D]) -> bool
+    ensures { result ≡ are_days_of plan.now (S.seen sources.now) 0 (map D.day_of days.now) }
 {
     let mut last = 0;
     for row in days {
-        if row.0 == plan.ch {
-            if row.1.number() <= last || !is_day_of(plan, sources, &row.1) {
-                return false;
-            }
-            last = row.1.number();
+        let day = row.day();
+        if day.number() <= last || !is_day_of(plan, sources, day) {
+            return false;
         }
+        last = day.number();
     }
     true
 }
 
-/// Whether the day is there, has the frames of a day at the plan's rate, and shows what is there.
-pub(crate) fn is_day_of<S: Sources>(plan: &PlanRow, sources: &S, day: &DayPlan) -> bool
+// Whether the day is there, has the frames of a day at the plan's rate, and shows what is there.
+fn is_day_of<S: Sources>(plan: &PlanRow, sources: &S, day: &DayPlan) -> bool
     ensures { result ≡ is_day_of plan.now (S.seen sources.now) day.now }
 {
     day.state() != DayState::NotThere

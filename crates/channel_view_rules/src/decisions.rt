@@ -1,10 +1,12 @@
 //! The decision of one command over what its channel sees.
-ghost use Rattle.std.specs.Prelude.{◌≡◌, true, IfOk};
+ghost use Rattle.std.specs.Prelude.{◌≡◌, List, true, IfOk};
+ghost use Rattle.std.specs.Borrow.{Bor};
+ghost use Rattle.playlist_core.specs.declared.source.Source.{Source};
 ghost use Rattle.channel_view_model.specs.declared.view.View.{View};
 ghost use Rattle.channel_view_model.specs.declared.command.Command.TheVariants as Command;
 ghost use Rattle.channel_view_model.specs.Seen.{seen_in};
 ghost use Rattle.channel_view_model.specs.Decide.{answered, decision, vault_decision};
-ghost use Rattle.channel_view_model.specs.Need.{own_need, need_of, asks_a_part, IsPartOf};
+ghost use Rattle.channel_view_model.specs.Need.{airing_need, own_need, need_of, asks_a_part, sources_named, IsPartOf};
 
 use crate::airing_decisions::decide_on_airing;
 use crate::day_decisions::decide_on_day;
@@ -26,7 +28,8 @@ pub fn decide(alloc: Global, view: &View, command: &Command) -> Result<(Reply, C
 {
     match command {
         Command::Vault(_) | Command::Day(_, _) | Command::Airing(_, _) | Command::PlanRow => {
-            let part = view.part(alloc, &Need::of(command))?;
+            let named = command.sources_named(alloc)?;
+            let part = view.part(alloc, &Need::of(command, &named))?;
             decide_part(alloc, &part, command)
         }
         Command::Table(table) => Ok((
@@ -44,7 +47,8 @@ pub fn decide_part(
     command: &Command,
 ) -> Result<(Reply, Change), Unavailable>
     requires { asks_a_part command.now ≡ true }
-    ensures { (view : View) → IsPartOf (need_of command.now) view part.now →
+    ensures { (view : View) → (named : Bor (List Source)) → named.now ≡ sources_named command.now →
+        IsPartOf (need_of command.now named) view part.now →
         IfOk result (λ d. d ≡ decision (seen_in view) command.now) }
 {
     match command {
@@ -64,7 +68,9 @@ fn decide_day(
     number: &DayNumber,
     command: &DayCommand,
 ) -> Result<(Reply, Change), Unavailable>
-    ensures { (view : View) → IsPartOf (need_of (Command.Day number.now command.now)) view part.now →
+    ensures { (view : View) → (named : Bor (List Source)) →
+        named.now ≡ sources_named (Command.Day number.now command.now) →
+        IsPartOf (need_of (Command.Day number.now command.now) named) view part.now →
         IfOk result (λ d. d ≡ decision (seen_in view) (Command.Day number.now command.now)) }
 {
     command.is_asked_of(number);
@@ -85,7 +91,7 @@ fn decide_airing(
     number: &DayNumber,
     command: &AiringCommand,
 ) -> Result<(Reply, Change), Unavailable>
-    ensures { (view : View) → IsPartOf (need_of (Command.Airing number.now command.now)) view part.now →
+    ensures { (view : View) → IsPartOf (airing_need number.now) view part.now →
         IfOk result (λ d. d ≡ decision (seen_in view) (Command.Airing number.now command.now)) }
 {
     let _number = number.get();

@@ -1,15 +1,15 @@
 //! The test of what one channel sees by the integrity rules.
 ghost use Rattle.std.specs.Prelude.{◌≡◌, ◌↔◌, ℕ, true, IfSome, IsTrue};
 ghost use Rattle.channel_view_model.specs.Centre.{Centre, view_of};
-ghost use Rattle.channel_view_model.specs.Rules.{KeepsRules, are_airings_of, are_days_of, numbers_rise};
+ghost use Rattle.channel_view_model.specs.Rules.{KeepsRules, are_airings_of, numbers_rise};
 ghost use Rattle.channel_view_rules.specs.ViewRules.{KeepsViewRules};
 
 use crate::airing_rules::is_airing_of;
-use crate::day_rules::is_day_of;
+use crate::day_rules::are_days_of;
 use asrun_match::DayAsRun;
 use channel_plan::PlanRow;
 use channel_view_model::View;
-use playlist_core::{DayPlan, SourceRows, Sources};
+use playlist_core::{DayPlan, SourceRows};
 
 /// Whether the channel's days have rising numbers and show what is there, and what was aired is of its sealed days.
 pub fn keeps_view_rules(view: &View) -> bool
@@ -25,20 +25,6 @@ pub fn keeps_view_rules(view: &View) -> bool
 pub fn views_keep_the_rules()
     ensures { (rows : Centre) (channel : ℕ) → KeepsRules rows → IfSome (view_of channel rows) KeepsViewRules }
 {}
-
-// Whether the days have rising numbers and show what is there.
-fn are_days_of<S: Sources>(plan: &PlanRow, sources: &S, days: &[DayPlan]) -> bool
-    ensures { result ≡ are_days_of plan.now (S.seen sources.now) 0 days.now }
-{
-    let mut last = 0;
-    for day in days {
-        if day.number() <= last || !is_day_of(plan, sources, day) {
-            return false;
-        }
-        last = day.number();
-    }
-    true
-}
 
 // Whether what was aired is of sealed ones of the days, their numbers rising.
 fn are_airings_of(plan: &PlanRow, days: &[DayPlan], airings: &[DayAsRun]) -> bool

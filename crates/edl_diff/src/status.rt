@@ -26,7 +26,7 @@ pub enum Status {
 }
 
 /// A stretch of one status: a longest one, as [`compare`](crate::compare) gives it.
-#[derive(Clone, Copy, Debug, PartialEq, Eq)]
+#[derive(Clone, Copy, PartialEq, Eq)]
 pub struct Run {
     /// The frame of the day at which it begins.
     pub position: u32,

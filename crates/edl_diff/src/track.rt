@@ -8,7 +8,7 @@ use edl::Event;
 use timecode::decimal_number;
 
 /// A track of a list.
-#[derive(Clone, Copy, Debug, PartialEq, Eq)]
+#[derive(Clone, Copy, PartialEq, Eq)]
 pub enum Track {
     /// The picture.
     Picture,

@@ -17,7 +17,7 @@ use channel_plan::{Code, LAST_CHANNEL, PlanRow, Refusal};
 use vault_core::{Clip, ClipsAsked, ClipsFound, MAX_OFFERS, Offer, Window};
 
 /// An offer that is open, by its clip and its grantee.
-#[derive(Clone, Copy, Debug, PartialEq, Eq)]
+#[derive(Clone, Copy, PartialEq, Eq)]
 pub struct OpenOffer {
     /// The number of the clip.
     pub clip: u32,
@@ -26,7 +26,7 @@ pub struct OpenOffer {
 }
 
 /// What a command asks of its channel's offers.
-#[derive(Clone, Copy, Debug, PartialEq, Eq)]
+#[derive(Clone, Copy, PartialEq, Eq)]
 pub struct OffersAsked {
     /// Whether it asks how many there are.
     pub count: bool,
@@ -86,7 +86,7 @@ pub fn clips_asked_for_offer(clip: ClipRef) -> ClipsAsked
 }
 
 /// The rows and counts of a channel's offers that answer what is asked. What isn't asked is none.
-#[derive(Clone, Copy, Debug, PartialEq, Eq)]
+#[derive(Clone, Copy, PartialEq, Eq)]
 pub struct OffersFound {
     /// How many there are, or 0 where that isn't asked.
     pub count: usize,

@@ -5,7 +5,7 @@ ghost use Rattle.grant_core.specs.ClipRef.{clip_ref, seven_digits};
 use timecode::decimal_number;
 
 /// What a text names that is to be a clip.
-#[derive(Clone, Copy, Debug, PartialEq, Eq)]
+#[derive(Clone, Copy, PartialEq, Eq)]
 pub enum ClipRef {
     /// `C` and 7 digits: an own clip, by its number.
     Own(u32),

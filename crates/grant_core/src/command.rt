@@ -12,7 +12,7 @@ use channel_plan::{PlanRow, Refusal};
 use vault_core::{ClipsAsked, ClipsFound, Offer, Put, RawText, Window};
 
 /// A command on a channel's offers.
-#[derive(Debug, Drop)]
+#[derive(Drop)]
 pub enum OfferCommand {
     /// Offer a clip, by its reel, to the channel `to`, for a window of its days or for any.
     Make {

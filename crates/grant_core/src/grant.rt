@@ -24,7 +24,7 @@ use vault_core::{MAX_CLIPS, MAX_OFFERS, Offer};
 const CLIP_NUMBERS: usize = MAX_CLIPS + 1;
 
 /// An offer as its grantee sees it, a lent clip: with its owner.
-#[derive(Clone, Copy, Debug, PartialEq, Eq)]
+#[derive(Clone, Copy, PartialEq, Eq)]
 pub struct Grant {
     /// The channel that offers it.
     pub owner: u16,
@@ -32,7 +32,7 @@ pub struct Grant {
 }
 
 /// The reel of a lent clip in edit lists and tables, as it prints: `L`, its owner in 3 digits, the offer's number in 4.
-#[derive(Clone, Copy, Debug, PartialEq, Eq)]
+#[derive(Clone, Copy, PartialEq, Eq)]
 pub struct LentReel {
     /// 1 to 999.
     pub owner: u16,
@@ -54,7 +54,7 @@ impl fmt::Display for LentReel {
 }
 
 /// The clips that are lent to one channel, open and withdrawn, by owner and number.
-#[derive(Debug, Drop)]
+#[derive(Drop)]
 pub struct LentRows {
     grants: Vec<Grant>,
 }

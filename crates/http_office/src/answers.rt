@@ -25,7 +25,7 @@ use std::alloc::{AllocError, Global};
 use vault_core::ClipReel;
 
 /// What is written for a message.
-#[derive(Debug, Drop)]
+#[derive(Drop)]
 pub enum Answer {
     Given(Vec<u8>),
     /// Memory, or the store, failed, and nothing was done. The answer is a constant and takes no memory.

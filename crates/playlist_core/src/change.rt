@@ -14,7 +14,7 @@ use timecode::Unavailable;
 
 /// A broadcast day after a command, and what the command changed of it. There was such a day before, which kept the
 /// rules.
-#[derive(Debug, Drop)]
+#[derive(Drop)]
 pub struct DayChange {
     day: DayPlan,
     was: DayState,

@@ -25,7 +25,7 @@ use std::marker::Model;
 use timecode::{Unavailable, day_frames};
 
 /// Whether a day is there, and whether its items may still change.
-#[derive(Clone, Copy, Debug, PartialEq, Eq)]
+#[derive(Clone, Copy, PartialEq, Eq)]
 pub enum DayState {
     NotThere,
     Open,
@@ -34,7 +34,7 @@ pub enum DayState {
 }
 
 /// A broadcast day of a channel, there or not: its items lie one behind the other, and fill it once it is sealed.
-#[derive(Debug, Drop)]
+#[derive(Drop)]
 pub struct DayPlan {
     number: u32,
     frames: u32,
@@ -215,11 +215,14 @@ impl DayPlan {
     pub fn copied(&self, alloc: Global) -> Result<DayPlan, Unavailable>
         ensures { IfOk result (λ d. d ≡ self.now) }
     {
+        // One item more finds room: else putting it in would move all items once more.
+        let mut items = Vec::with_capacity(alloc, self.items.len() + 1)?;
+        items.extend_from_slice(&self.items)?;
         Ok(DayPlan {
             number: self.number,
             frames: self.frames,
             state: self.state,
-            items: Vec::from_slice(alloc, &self.items)?,
+            items,
         })
     }
 

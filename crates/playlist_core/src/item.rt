@@ -17,7 +17,7 @@ pub const MAX_MIX: u16 = 999;
 pub const MAX_WIPE: u16 = 999;
 
 /// How the picture changes to an item.
-#[derive(Clone, Copy, Debug, PartialEq, Eq)]
+#[derive(Clone, Copy, PartialEq, Eq)]
 pub enum EditKind {
     Cut,
     Dissolve,
@@ -71,7 +71,7 @@ impl fmt::Display for EditKind {
 }
 
 /// An item of a day. That its fields are as is said here is kept by the [`DayPlan`](crate::DayPlan) that it is in.
-#[derive(Clone, Copy, Debug, PartialEq, Eq)]
+#[derive(Clone, Copy, PartialEq, Eq)]
 pub struct Item {
     /// From 1, its own in the day.
     pub n: u16,
@@ -106,7 +106,7 @@ impl Item {
 }
 
 /// An item that is to be added, without its number.
-#[derive(Clone, Copy, Debug, PartialEq, Eq)]
+#[derive(Clone, Copy, PartialEq, Eq)]
 pub struct NewItem {
     /// The frame of the broadcast day at which it begins, from 0.
     pub pos: u32,

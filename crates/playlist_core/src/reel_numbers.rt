@@ -4,7 +4,7 @@ ghost use Rattle.std.specs.Prelude.{◌≡◌, ◌^◌, nat_lt, Some, None, if�
 use std::marker::Model;
 
 /// The number of a clip, at most 9,999,999: its reel has 7 digits for it.
-#[derive(Clone, Copy, Debug, PartialEq, Eq)]
+#[derive(Clone, Copy, PartialEq, Eq)]
 pub struct ClipNumber {
     clip: u32,
 }
@@ -42,7 +42,7 @@ impl ClipNumber {
 }
 
 /// The number of a channel that lends a clip, at most 999: the clip's reel has 3 digits for it.
-#[derive(Clone, Copy, Debug, PartialEq, Eq)]
+#[derive(Clone, Copy, PartialEq, Eq)]
 pub struct Owner {
     channel: u16,
 }
@@ -80,7 +80,7 @@ impl Owner {
 }
 
 /// The number of an offer, at most 9,999: the reel of the lent clip has 4 digits for it.
-#[derive(Clone, Copy, Debug, PartialEq, Eq)]
+#[derive(Clone, Copy, PartialEq, Eq)]
 pub struct OfferNumber {
     offer: u16,
 }

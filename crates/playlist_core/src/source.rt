@@ -12,7 +12,7 @@ use std::marker::Model;
 use vault_core::{Clip, ClipReel, OwnRows, are_numbered, clip_at};
 
 /// What an item shows.
-#[derive(Clone, Copy, Debug, PartialEq, Eq)]
+#[derive(Clone, Copy, PartialEq, Eq)]
 pub enum Source {
     Black,
     Bars,
@@ -99,7 +99,7 @@ impl fmt::Display for Source {
 }
 
 /// The row that a source names.
-#[derive(Clone, Copy, Debug)]
+#[derive(Clone, Copy)]
 pub enum SourceRow<'a> {
     Own(&'a Clip),
     Lent(&'a Grant),
@@ -119,7 +119,7 @@ pub trait Sources {
 /// Clips of a channel and clips that are lent to it, as rows that sources name. All of a channel's are numbered from 1
 /// without a hole, and those lent to it are in the order of owners and numbers, so a row is found by its place or by
 /// bisection; rows that aren't so are walked.
-#[derive(Debug, Drop)]
+#[derive(Drop)]
 pub struct SourceRows<'a> {
     clips: &'a [Clip],
     grants: &'a [Grant],
@@ -197,7 +197,7 @@ impl Sources for SourceRows<'_> {
 }
 
 /// The clips of a channel, and those that are lent to it, as sources name them.
-#[derive(Clone, Copy, Debug)]
+#[derive(Clone, Copy)]
 pub struct ViewSources<'a> {
     pub own: &'a OwnRows,
     pub lent: &'a LentRows,
@@ -239,7 +239,7 @@ impl Sources for ViewSources<'_> {
 }
 
 /// The rows that were found of those that sources may name: clips of a channel, and clips that are lent to it.
-#[derive(Debug, Drop)]
+#[derive(Drop)]
 pub struct SourcesFound {
     pub clips: Vec<Clip>,
     pub grants: Vec<Grant>,

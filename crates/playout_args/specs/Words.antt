@@ -60,6 +60,13 @@ subcommand name rules = record (new_shape name) { rules = rules }
 abbrev pub answer_words : Shape
 answer_words = subcommand (codes "answer") (an_option (codes "db") ∷ some_words (codes "ROW") ∷ [])
 
+-- one that RATE follows, and one that a file of tables follows
+abbrev pub with_rate : Text → Shape
+with_rate name = subcommand name (a_word (codes "RATE") ∷ [])
+
+abbrev pub with_file : Text → Shape
+with_file name = subcommand name (a_wanted_option (codes "db") ∷ [])
+
 abbrev pub check_words : Shape
 check_words = subcommand (codes "check") (a_word (codes "RATE") ∷ some_words (codes "FILE") ∷ [])
 

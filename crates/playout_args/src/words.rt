@@ -10,7 +10,8 @@ ghost use Rattle.clap.specs.Words.{Shape, takes, with_subcommand};
 ghost use Rattle.playout_args.specs.Words.{a_word, a_flag, an_option, a_wanted_option, idle_option, peers_option};
 ghost use Rattle.playout_args.specs.Words.{some_words, program, program_head, IsSubcommand};
 ghost use Rattle.playout_args.specs.Words.{answer_words, check_words, diff_words, list_words, serve_head, serve_words};
-ghost use Rattle.playout_args.specs.Words.{table_words};
+ghost use Rattle.playout_args.specs.Words.{table_words, with_rate, with_file};
+ghost use Rattle.clap.specs.Simple.{new_shape};
 ghost use Rattle.playout_args.specs.Words.{timecode_words};
 ghost use Rattle.playout_args.specs.Words.{table_name, SaysForm, SaysNumber, SaysTurns, AsksFor, AskNothingOf, IsAsked};
 ghost use Rattle.playout_args.specs.Words.{AreAsking, AreRead, AskForNothing, IsToldOf};
@@ -197,23 +198,35 @@ fn answer_command<'a>(alloc: Global) -> Result<Command<'a>, AllocError>
         .arg(row_words(alloc))
 }
 
+// A subcommand with this name, which RATE follows.
+fn rate_command<'a>(alloc: Global, name: &'a str, about: &'a str) -> Result<Command<'a>, AllocError>
+    ensures { IfOk result (IsSubcommand (with_rate name.now)) }
+{
+    Command::new(alloc, name).about(about).arg(rate_word(alloc))
+}
+
+// A subcommand with this name, which a file of tables follows.
+fn file_command<'a>(alloc: Global, name: &'a str, about: &'a str) -> Result<Command<'a>, AllocError>
+    ensures { IfOk result (IsSubcommand (with_file name.now)) }
+{
+    Command::new(alloc, name)
+        .about(about)
+        .arg(file_option(alloc))
+}
+
 fn check_command<'a>(alloc: Global) -> Result<Command<'a>, AllocError>
     ensures { IfOk result (IsSubcommand check_words) }
 {
-    Command::new(alloc, "check")
-        .about(
-            "Counts what an edit list on standard input, or each in a FILE, holds, or names its first fault",
-        )
-        .arg(rate_word(alloc))?
-        .arg(file_words(alloc))
+    let about =
+        "Counts what an edit list on standard input, or each in a FILE, holds, or names its first fault";
+    rate_command(alloc, "check", about)?.arg(file_words(alloc))
 }
 
 fn diff_command<'a>(alloc: Global) -> Result<Command<'a>, AllocError>
     ensures { IfOk result (IsSubcommand diff_words) }
 {
-    Command::new(alloc, "diff")
-        .about("Compares two edit lists frame by frame, picture and sound")
-        .arg(rate_word(alloc))?
+    let about = "Compares two edit lists frame by frame, picture and sound";
+    rate_command(alloc, "diff", about)?
         .arg(wanted_word(alloc, "A", "The file of the first list"))?
         .arg(wanted_word(alloc, "B", "The file of the other list"))
 }
@@ -221,9 +234,8 @@ fn diff_command<'a>(alloc: Global) -> Result<Command<'a>, AllocError>
 fn list_command<'a>(alloc: Global) -> Result<Command<'a>, AllocError>
     ensures { IfOk result (IsSubcommand list_words) }
 {
-    Command::new(alloc, "list")
-        .about("Prints the events of an edit list on standard input, a line each")
-        .arg(rate_word(alloc))?
+    let about = "Prints the events of an edit list on standard input, a line each";
+    rate_command(alloc, "list", about)?
         .arg(flag(alloc, "json", "As JSON Lines, as without a word"))?
         .arg(flag(alloc, "csv", "As CSV, behind a line of names"))
 }
@@ -232,10 +244,9 @@ fn list_command<'a>(alloc: Global) -> Result<Command<'a>, AllocError>
 fn serve_head<'a>(alloc: Global) -> Result<Command<'a>, AllocError>
     ensures { IfOk result (IsSubcommand serve_head) }
 {
-    Command::new(alloc, "serve")
-        .about("Serves connections on a port of 127.0.0.1")
-        .arg(file_option(alloc))?
-        .arg(wanted_option(alloc, "port", "N", "0 to 65535; 0 takes a free one"))?
+    let port = "0 to 65535; 0 takes a free one";
+    file_command(alloc, "serve", "Serves connections on a port of 127.0.0.1")?
+        .arg(wanted_option(alloc, "port", "N", port))?
         .arg(peers_option(alloc))
 }
 
@@ -250,24 +261,19 @@ fn serve_command<'a>(alloc: Global) -> Result<Command<'a>, AllocError>
 fn table_command<'a>(alloc: Global) -> Result<Command<'a>, AllocError>
     ensures { IfOk result (IsSubcommand table_words) }
 {
-    Command::new(alloc, "table")
-        .about("Prints a table of a channel, to read")
-        .arg(file_option(alloc))?
+    let tables = "vault, clips, offers, lent or days";
+    file_command(alloc, "table", "Prints a table of a channel, to read")?
         .arg(wanted_option(alloc, "ch", "N", "The channel, 1 to 999"))?
-        .arg(wanted_word(alloc, "NAME", "vault, clips, offers, lent or days"))
+        .arg(wanted_word(alloc, "NAME", tables))
 }
 
 fn timecode_command<'a>(alloc: Global) -> Result<Command<'a>, AllocError>
     ensures { IfOk result (IsSubcommand timecode_words) }
 {
-    Command::new(alloc, "tc")
-        .about("Prints the frame of a label")
-        .arg(rate_word(alloc))?
-        .arg(wanted_word(
-            alloc,
-            "LABEL",
-            "A label, as 06:00:00:00, or - for lines of labels and of frames",
-        ))
+    let label = "A label, as 06:00:00:00, or - for lines of labels and of frames";
+    rate_command(alloc, "tc", "Prints the frame of a label")?.arg(wanted_word(
+        alloc, "LABEL", label,
+    ))
 }
 
 // A broadcast day, from an empty plan to the match table.
@@ -290,12 +296,19 @@ docs/broadcast-day has such a day with its answers, docs/FORMATS.md each form.";
 // The program's version, the first heading of CHANGELOG.md, and that of the tables in its files.
 const VERSION: &str = "1.0.0, tables 2";
 
-fn bare_command<'a>(alloc: Global) -> Command<'a>
-    ensures { app_of result ≡ record { top = program_head; subs = [] } }
+// The program's name, what it is, and its version.
+fn named_command<'a>(alloc: Global) -> Command<'a>
+    ensures { app_of result ≡ record { top = record (new_shape (codes "playout")) { has_version = true }; subs = [] } }
 {
     Command::new(alloc, "playout")
         .about("The traffic and tape library office of a playout centre")
         .version(VERSION)
+}
+
+fn bare_command<'a>(alloc: Global) -> Command<'a>
+    ensures { app_of result ≡ record { top = program_head; subs = [] } }
+{
+    named_command(alloc)
         .no_binary_name(true)
         .after_help(A_DAY)
         .subcommand_required(true)

@@ -18,11 +18,11 @@ ghost use Rattle.reports.specs.Output.{AppendsPart};
 
 use crate::machine::Ports;
 use crate::vaults::with_vaults;
-use channel_view::RecentDays;
 use channel_view_model::RowStore;
 use playout_actions::{Fault, FaultLines, FaultWriter, StreamFault};
 use playout_peers::{Door, InTurn, Limits, serve_peers};
 use reports::{LineBuffer, WriteFault, print_line, push, push_decimal};
+use rows_at_hand::RecentDays;
 use sqlite::{Alter, Connection};
 use station_tables::SqlRows;
 use std::alloc::Global;

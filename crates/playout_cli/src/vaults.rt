@@ -3,19 +3,20 @@ ghost use Rattle.std.specs.Prelude.{◌≤◌, IfSome};
 ghost use Rattle.sqlite.specs.State.{HasCleanDisk};
 ghost use Rattle.sqlite.specs.Held.{state};
 ghost use Rattle.channel_view_model.specs.Centre.{Centre};
-ghost use Rattle.channel_view.specs.AtHand.{AreVaultsOf};
+ghost use Rattle.rows_at_hand.specs.AtHand.{AreVaultsOf};
 ghost use Rattle.station_tables_reading.specs.Vaults.{bytes_of};
 ghost use Rattle.station_tables.specs.Store.{StandsWithPlan};
 ghost use Rattle.station_tables.specs.Tables.{MayLeave};
 ghost use Rattle.playout_cli.specs.Vaults.{most_vault_bytes};
 
-use channel_view::{MemRows, VaultsAtHand};
+use channel_view::MemRows;
+use rows_at_hand::VaultsAtHand;
 use sqlite::Alter;
 use station_tables::SqlRows;
 use std::alloc::Global;
 
-// The most bytes that the tapes, the clips and the offers at hand take, by their rows. So few, since a new row moves those
-// of the channels behind it.
+// The most bytes that the tapes, the clips and the offers at hand take, by their rows. So few, since a new row moves
+// those of the channels behind it.
 const MOST_VAULT_BYTES: usize = 1 << 20;
 
 /// A store over these tables that has the vaults of all channels at hand, where they are few enough and memory is there

@@ -6,7 +6,7 @@ ghost use Rattle.playout_peers.specs.Wire.{Wire, LeavesAll, LeavesOthers, IsRead
 use std::io;
 
 /// A connection: its place among those that are open, and its number among all, the first of which is 0.
-#[derive(Clone, Copy, Debug, PartialEq, Eq)]
+#[derive(Clone, Copy, PartialEq, Eq)]
 pub struct Seat {
     pub place: usize,
     pub number: u64,

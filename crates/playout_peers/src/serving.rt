@@ -30,7 +30,7 @@ const STEPS: u32 = 3;
 const MOST_AT_ONCE: u32 = 1_024;
 
 /// How many connections may be open at once, how many are served in all, and how many seconds a peer is waited for.
-#[derive(Clone, Copy, Debug)]
+#[derive(Clone, Copy)]
 pub struct Limits {
     pub peers: u16,
     pub turns: u64,

@@ -15,7 +15,7 @@ use playlist_core::{DayPlan, DayState};
 use std::io::Write;
 
 /// What the days table tells of a day.
-#[derive(Clone, Copy, Debug, PartialEq, Eq)]
+#[derive(Clone, Copy, PartialEq, Eq)]
 pub struct DayCounts {
     pub number: u32,
     pub state: DayState,

@@ -8,14 +8,16 @@ ghost use Rattle.channel_view_model.specs.Seen.{grants_to};
 ghost use Rattle.channel_view_model.specs.Centre.{plan_of};
 ghost use Rattle.channel_view_model.specs.Days.{day_at};
 ghost use Rattle.channel_view_model.specs.Need.{AreSourceAnswers, IsDayAnswer, IsSourceAnswer, NamesAlike};
-ghost use Rattle.channel_view_model.specs.Need.{items_asked};
+ghost use Rattle.channel_view_model.specs.Need.{items_asked, names_asked};
 ghost use Rattle.station_tables_records.specs.Inside.{inside, Reads, Looks};
 ghost use Rattle.station_tables_statements.specs.Calls.{set_in, WhileCleanCentre};
 ghost use Rattle.station_tables_reading.specs.Lent.{lent_to};
 
 use crate::day_loading::load_days;
 use channel_plan::PlanRow;
-use channel_view_model::{DayNumber, FEW_ITEMS, Need, SourcesAsked, items_asked};
+use channel_view_model::{
+    DayNumber, FEW_SOURCES, Need, SourcesAsked, items_asked, names_asked, sources_of,
+};
 use grant_core::Grant;
 use playlist_core::{DayPlan, Item, Source, SourcesFound};
 use sqlite::{Alter, Transaction};
@@ -175,64 +177,68 @@ fn source_found<S: Alter>(
     }
 }
 
-// What each of these items names, one after another.
-fn sources_named<S: Alter>(
+// What each of these sources names, one after another.
+fn each_named<S: Alter>(
     alloc: Global,
     tx: &mut Transaction<'_, S>,
     channel: u16,
-    items: &[Item],
+    sources: &[Source],
 ) -> Result<SourcesFound, Unavailable>
     ensures looks { Looks S.Store tx.old tx.new result }
-    ensures found { WhileCleanCentre S.Store tx.old tx.new (IfOk result (λ found. NamesAlike items.now
+    ensures found { WhileCleanCentre S.Store tx.old tx.new (IfOk result (λ found. NamesAlike sources.now
         (rows_of channel (set_in (inside S.Store tx.old)).clips)
         (grants_to channel (set_in (inside S.Store tx.old)).offers) found.clips.items found.grants.items)) }
 {
     let mut found = SourcesFound::nothing(alloc);
-    for item in items {
-        let named = source_found(alloc, tx, channel, item.src)?;
+    for source in sources {
+        let named = source_found(alloc, tx, channel, *source)?;
         found.clips.extend_from_slice(&named.clips)?;
         found.grants.extend_from_slice(&named.grants)?;
     }
     Ok(found)
 }
 
-// What these items name; of many items, all.
-fn sources_of<S: Alter>(
+// What these sources name; of many, all.
+fn sources_named<S: Alter>(
     alloc: Global,
     tx: &mut Transaction<'_, S>,
     channel: u16,
-    items: &[Item],
+    sources: &[Source],
 ) -> Result<SourcesFound, Unavailable>
     ensures looks { Looks S.Store tx.old tx.new result }
-    ensures found { WhileCleanCentre S.Store tx.old tx.new (IfOk result (λ found. NamesAlike items.now
+    ensures found { WhileCleanCentre S.Store tx.old tx.new (IfOk result (λ found. NamesAlike sources.now
         (rows_of channel (set_in (inside S.Store tx.old)).clips)
         (grants_to channel (set_in (inside S.Store tx.old)).offers) found.clips.items found.grants.items)) }
 {
-    if items.len() > FEW_ITEMS {
+    if sources.len() > FEW_SOURCES {
         all_sources(alloc, tx, channel)
     } else {
-        sources_named(alloc, tx, channel, items)
+        each_named(alloc, tx, channel, sources)
     }
 }
 
-// The clips and the lent clips that are asked for, of these items.
+// The clips and the lent clips that are asked for, of these items or these sources.
 fn sources_found<S: Alter>(
     alloc: Global,
     tx: &mut Transaction<'_, S>,
     channel: u16,
     asked: SourcesAsked,
     items: &[Item],
+    named: &[Source],
 ) -> Result<SourcesFound, Unavailable>
     ensures looks { Looks S.Store tx.old tx.new result }
     ensures found { WhileCleanCentre S.Store tx.old tx.new (IfOk result (λ found. AreSourceAnswers asked items.now
-        (rows_of channel (set_in (inside S.Store tx.old)).clips)
+        named.now (rows_of channel (set_in (inside S.Store tx.old)).clips)
         (grants_to channel (set_in (inside S.Store tx.old)).offers) found.clips.items found.grants.items)) }
 {
     match asked {
         SourcesAsked::Nothing => Ok(SourcesFound::nothing(alloc)),
         SourcesAsked::One(source) => source_found(alloc, tx, channel, source),
-        SourcesAsked::OfItems => sources_of(alloc, tx, channel, items),
-        SourcesAsked::All => all_sources(alloc, tx, channel),
+        SourcesAsked::OfItems => {
+            let sources = sources_of(alloc, items)?;
+            sources_named(alloc, tx, channel, &sources)
+        }
+        SourcesAsked::Named => sources_named(alloc, tx, channel, named),
     }
 }
 
@@ -249,12 +255,14 @@ pub(crate) fn find_air<S: Alter>(
         (λ air. IsDayAnswer need.now.day plan.now
         (of_channel plan.now.ch (set_in (inside S.Store tx.old)).days) air.day)) }
     ensures sources { WhileCleanCentre S.Store tx.old tx.new (IfOk result (λ air. AreSourceAnswers need.now.sources
-        (items_asked need.now.items air.day) (rows_of plan.now.ch (set_in (inside S.Store tx.old)).clips)
+        (items_asked need.now.items air.day) (names_asked need.now.named)
+        (rows_of plan.now.ch (set_in (inside S.Store tx.old)).clips)
         (grants_to plan.now.ch (set_in (inside S.Store tx.old)).offers)
         air.sources.clips.items air.sources.grants.items)) }
 {
     let day = day_asked(alloc, tx, plan, &need.day)?;
     let items = items_asked(need.items, &day);
-    let sources = sources_found(alloc, tx, plan.ch, need.sources, items)?;
+    let named = names_asked(need.named);
+    let sources = sources_found(alloc, tx, plan.ch, need.sources, items, named)?;
     Ok(DayAndSources { day, sources })
 }

@@ -9,10 +9,11 @@ use crate::others::{
 use crate::recording::Recording;
 use crate::script::{Exchange, exchanges_of, message};
 use channel_plan::PlanRow;
-use channel_view::{MOST_DAYS, MemRows, RecentDays, VaultsAtHand};
+use channel_view::MemRows;
 use channel_view_model::RowStore;
 use http_office::answers::Answer;
 use http_office::messages::answer;
+use rows_at_hand::{MOST_DAYS, RecentDays, VaultsAtHand};
 use sqlite::MemStore;
 use station_tables::{SqlRows, centre_in_memory};
 use std::alloc::Global;

@@ -2,8 +2,9 @@
 use crate::asked::FIRST;
 use crate::centres::{are_answered, with_vaults};
 use crate::others::plan_row;
-use channel_view::{MemRows, RecentDays};
+use channel_view::MemRows;
 use channel_view_model::{RowStore, View};
+use rows_at_hand::RecentDays;
 use station_tables::{SqlRows, centre_in_memory};
 use std::alloc::Global;
 use std::process::Abort;

@@ -3,7 +3,8 @@
 use crate::centres::are_answered;
 use crate::recording::Recording;
 use channel_plan::PlanRow;
-use channel_view::{MemRows, RecentDays};
+use channel_view::MemRows;
+use rows_at_hand::RecentDays;
 use station_tables::centre_in_memory;
 use std::alloc::Global;
 use std::process::Abort;

@@ -76,7 +76,8 @@ fn a_channel_outside_the_plan_sees_nothing(rt: HostRuntime) -> Result<(), Fail> 
     let alloc = rt.alloc();
     let mut store = store_of(alloc)?;
     let command = Command::Vault(VaultCommand::Tape(TapeCommand::Pull { tape: 1 }));
-    assert!(rt; store.fetch(3, &Need::of(&command))?.is_none() && store.load(3)?.is_none());
+    let need = Need::of(&command, &[]);
+    assert!(rt; store.fetch(3, &need)?.is_none() && store.load(3)?.is_none());
     Ok(())
 }
 

@@ -18,7 +18,7 @@ use timecode::from_timecode;
 use umid::Umid;
 
 /// What a command asks of its channel's clips.
-#[derive(Clone, Copy, Debug, PartialEq, Eq)]
+#[derive(Clone, Copy, PartialEq, Eq)]
 pub struct ClipsAsked {
     /// Whether it asks how many there are.
     pub count: bool,
@@ -70,7 +70,7 @@ impl ClipsAsked {
 }
 
 /// The rows and counts of a channel's clips that answer what is asked. What isn't asked is none.
-#[derive(Clone, Copy, Debug, PartialEq, Eq)]
+#[derive(Clone, Copy, PartialEq, Eq)]
 pub struct ClipsFound {
     /// How many there are, or 0 where that isn't asked.
     pub count: usize,

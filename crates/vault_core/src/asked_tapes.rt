@@ -15,7 +15,7 @@ use crate::tape::{Barcode, MAX_TAPES, Tape};
 use channel_plan::{Code, PlanRow, Refusal};
 
 /// What a command asks of its channel's tapes.
-#[derive(Clone, Copy, Debug, PartialEq, Eq)]
+#[derive(Clone, Copy, PartialEq, Eq)]
 pub struct TapesAsked {
     /// Whether it asks how many there are.
     pub count: bool,
@@ -85,7 +85,7 @@ impl TapesAsked {
 }
 
 /// The rows and counts of a channel's tapes that answer what is asked. What isn't asked is none.
-#[derive(Clone, Copy, Debug, PartialEq, Eq)]
+#[derive(Clone, Copy, PartialEq, Eq)]
 pub struct TapesFound {
     /// How many there are, or 0 where that isn't asked.
     pub count: usize,

@@ -14,7 +14,7 @@ use umid::Umid;
 pub const MAX_CLIPS: usize = 20_000;
 
 /// A clip of a channel: a stretch of a tape.
-#[derive(Clone, Copy, Debug, PartialEq, Eq)]
+#[derive(Clone, Copy, PartialEq, Eq)]
 pub struct Clip {
     /// Counted in its channel from 1.
     pub n: u32,
@@ -48,7 +48,7 @@ impl Clip {
 }
 
 /// The title of a clip: 1 to 60 bytes from the blank to `~`, with no blank at either end.
-#[derive(Clone, Copy, Debug, PartialEq, Eq)]
+#[derive(Clone, Copy, PartialEq, Eq)]
 pub struct Title {
     text: ShortText<60>,
 }

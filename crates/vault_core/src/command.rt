@@ -14,7 +14,7 @@ use crate::text::RawText;
 use channel_plan::{PlanRow, Refusal};
 
 /// How a command puts a row.
-#[derive(Clone, Copy, Debug, PartialEq, Eq)]
+#[derive(Clone, Copy, PartialEq, Eq)]
 pub enum Put {
     /// As one more, with the next number.
     Added,
@@ -23,7 +23,7 @@ pub enum Put {
 }
 
 /// A command on a channel's tapes.
-#[derive(Debug, Drop)]
+#[derive(Drop)]
 pub enum TapeCommand {
     /// Put a new tape into a slot.
     Add { barcode: RawText, slot: u32 },
@@ -69,7 +69,7 @@ impl TapeCommand {
 }
 
 /// A command on a channel's clips.
-#[derive(Debug, Drop)]
+#[derive(Drop)]
 pub enum ClipCommand {
     /// Add a clip on the tape with this number. `source_in` is the label of its first source frame, `umid` are
     /// hexadecimal digits, `frames` is its length.

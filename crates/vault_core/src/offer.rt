@@ -12,7 +12,7 @@ pub const MAX_OFFERS: usize = 9999;
 
 /// An offer of a clip to another channel, the grantee: a copy of what the clip was as it was offered. To the grantee it
 /// is a lent clip.
-#[derive(Clone, Copy, Debug, PartialEq, Eq)]
+#[derive(Clone, Copy, PartialEq, Eq)]
 pub struct Offer {
     /// Counted in the owner's channel from 1.
     pub n: u16,

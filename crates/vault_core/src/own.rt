@@ -23,7 +23,7 @@ use umid::Umid;
 use umid::laws::parts_are_of_32_bytes;
 
 /// The own rows of one channel: its plan row, and its tapes, clips and offers by number. They keep the integrity rules.
-#[derive(Debug, Drop)]
+#[derive(Drop)]
 pub struct OwnRows {
     plan: PlanRow,
     tapes: Vec<Tape>,

@@ -2,7 +2,7 @@
 use std::fmt;
 
 /// The reel of a clip in edit lists and tables, as it prints: `C` and the clip's number in 7 digits.
-#[derive(Clone, Copy, Debug, PartialEq, Eq)]
+#[derive(Clone, Copy, PartialEq, Eq)]
 pub struct ClipReel {
     /// The clip's number, from 1.
     pub number: u32,

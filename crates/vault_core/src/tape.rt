@@ -13,7 +13,7 @@ use timecode::is_digits;
 pub const MAX_TAPES: usize = 9999;
 
 /// A tape of a channel.
-#[derive(Clone, Copy, Debug, PartialEq, Eq)]
+#[derive(Clone, Copy, PartialEq, Eq)]
 pub struct Tape {
     /// Counted in its channel from 1.
     pub n: u16,
@@ -36,7 +36,7 @@ impl Tape {
 
 /// The barcode of a tape: 1 to 8 letters A to Z and digits, but no reel that lists keep for something else (`BL`,
 /// `BLACK`, `BARS`, `AX`, and `C` or `L` with 7 digits).
-#[derive(Clone, Copy, Debug, PartialEq, Eq)]
+#[derive(Clone, Copy, PartialEq, Eq)]
 pub struct Barcode {
     text: ShortText<8>,
 }

@@ -2,7 +2,7 @@
 use std::marker::Model;
 
 /// A text of a command, of any length and any content.
-#[derive(Debug, Drop)]
+#[derive(Drop)]
 pub struct RawText {
     text: String,
 }

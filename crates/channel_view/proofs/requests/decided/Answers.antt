@@ -7,13 +7,14 @@ use Rattle.channel_view_model.proofs.NeedLemmas.{none_fetched, some_fetched}
 use Rattle.channel_view.proofs.requests.decided.Goals as goal
 
 pub returns-in_ok-decide_part-in-Some : goal.returns-in_ok-decide_part-in-Some
-returns-in_ok-decide_part-in-Some c = λ view fetched.
+returns-in_ok-decide_part-in-Some c = λ view named its fetched.
     let q = c.args.command.now in
-    some_fetched (λ v. decision (seen_in v) q) (need_of q) view c.in-Some.part c.in_ok-decide_part-in-Some.field-0
-    (subst (IsFetched (need_of q) view) c.in-Some.is fetched) c.in_ok-decide_part-in-Some.ensures
+    some_fetched (λ v. decision (seen_in v) q) (need_of q named) view c.in-Some.part
+    c.in_ok-decide_part-in-Some.field-0 (subst (IsFetched (need_of q named) view) c.in-Some.is fetched)
+    (λ v is. c.in_ok-decide_part-in-Some.ensures v named its is)
 
 pub returns-in-None : goal.returns-in-None
-returns-in-None c = λ view fetched.
+returns-in-None c = λ view named its fetched.
     let q = c.args.command.now in
-    none_fetched (λ v. decision (seen_in v) q) (need_of q) view
-    (subst (IsFetched (need_of q) view) c.in-None.is fetched)
+    none_fetched (λ v. decision (seen_in v) q) (need_of q named) view
+    (subst (IsFetched (need_of q named) view) c.in-None.is fetched)

@@ -18,7 +18,7 @@ returns-then-not-branch c =
       search rules,
       λ kept. absurd
           (false≢true
-          (sym lacks ∙ c.loop-plan.invariant ∙ each-have (has_days rows) rows.channels c.requires kept.seen)),
+          (sym lacks ∙ c.loop-plan.invariant ∙ each-have (has_days rows) rows.channels c.requires.plan kept.seen)),
     )
 
 pub returns : goal.returns

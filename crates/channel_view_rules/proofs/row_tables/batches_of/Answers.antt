@@ -1,6 +1,6 @@
 -- `batches_of`: how many batches came for the day with this number.
 use Rattle.std.proofs.Common.{◌≡◌, ℕ, List, [], ◌∷◌, true, false, length, refl, sym, ap, ◌∙◌}
-use Rattle.std.specs.Prelude.{◌==◌, find, Some, None, if◌then◌else◌}
+use Rattle.std.specs.Prelude.{◌==◌, find, Some, if◌then◌else◌}
 use Rattle.std.specs.Option.{option_map}
 use Rattle.asrun_match.specs.declared.day.DayAsRun.{DayAsRun}
 use Rattle.reports.specs.Days.{batches_in}

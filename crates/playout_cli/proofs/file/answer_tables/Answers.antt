@@ -5,8 +5,8 @@ use Rattle.sqlite.specs.Held.{state}
 use Rattle.station_tables_statements.specs.Rows.{StandsFor}
 use Rattle.station_tables.specs.Store.{StandsWithPlan}
 use Rattle.station_tables.specs.Tables.{MayLeave}
-use Rattle.channel_view.specs.AtHand.{AreVaultsOf}
-use Rattle.channel_view.proofs.KnownLemmas.{nothing_known}
+use Rattle.rows_at_hand.specs.AtHand.{AreVaultsOf}
+use Rattle.rows_at_hand.proofs.KnownLemmas.{nothing_known}
 use Rattle.playout_cli.proofs.ServingLemmas.{serves_on}
 use Rattle.playout_cli.proofs.file.answer_tables.Goals as goal
 

@@ -7,8 +7,8 @@ use Rattle.station_tables_statements.specs.Rows.{StandsFor}
 use Rattle.station_tables.proofs.FindLemmas.{known_of}
 use Rattle.station_tables.specs.Store.{StandsWithPlan}
 use Rattle.station_tables.specs.Tables.{MayLeave}
-use Rattle.channel_view.specs.AtHand.{AreVaultsOf}
-use Rattle.channel_view.proofs.KnownLemmas.{nothing_known}
+use Rattle.rows_at_hand.specs.AtHand.{AreVaultsOf}
+use Rattle.rows_at_hand.proofs.KnownLemmas.{nothing_known}
 use Rattle.playout_cli.proofs.KeptLemmas.{stands_with_plan}
 use Rattle.playout_cli.proofs.ServingLemmas.{err_where_on, serves_over, port_over}
 use Rattle.playout_cli.proofs.serve.serve_tables.Goals as goal

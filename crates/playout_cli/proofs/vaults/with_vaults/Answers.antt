@@ -4,7 +4,7 @@ use Rattle.sqlite.specs.State.{HasCleanDisk}
 use Rattle.sqlite.specs.Held.{state}
 use Rattle.channel_view_model.specs.Centre.{Centre}
 use Rattle.channel_view_model.specs.Rules.{KeepsRules}
-use Rattle.channel_view.specs.AtHand.{AreVaultsOf, vaults_of}
+use Rattle.rows_at_hand.specs.AtHand.{AreVaultsOf, vaults_of}
 use Rattle.station_tables_reading.specs.Vaults.{AreVaultsRead}
 use Rattle.station_tables.specs.Store.{StandsWithPlan}
 use Rattle.station_tables.specs.Tables.{MayLeave}

@@ -1,47 +1,16 @@
--- `sources_named`: what each item names, one after another.
-use Rattle.std.proofs.Common.{◌∙◌, ap, arith}
-use Rattle.std.proofs.lemmas.List.{take_all}
+-- `sources_named`: what sources name, or all.
+use Rattle.std.proofs.lemmas.Result.{IfOk-weaker}
 use Rattle.channel_view_model.specs.Tables.{rows_of}
 use Rattle.channel_view_model.specs.Seen.{grants_to}
-use Rattle.channel_view_model.specs.Need.{IsSourceAnswer}
-use Rattle.channel_view_model.proofs.NamedLemmas.{clips_more, grants_more, clips_named, grants_named, named_alike}
+use Rattle.channel_view_model.proofs.NamedLemmas.{all_alike}
 use Rattle.station_tables_records.specs.Inside.{inside}
 use Rattle.station_tables_statements.specs.Calls.{set_in}
-use Rattle.station_tables_statements.proofs.LookLemmas.{looks_on, looks_then, set_before, was_clean}
 use Rattle.station_tables_reading.proofs.day_fetching.sources_named.Goals as goal
 
-pub loop-item-preserved : goal.loop-item-preserved
-loop-item-preserved g c =
-    let s = g.S.Store in
-    let set = set_in (inside s c.args.tx.now) in
-    let clips = rows_of c.args.channel set.clips in
-    let grants = grants_to c.args.channel set.offers in
-    let look = c.in_ok-named.ensures.looks in
-    let before = c.loop-item.invariant in
-    let named =
-    set_before s _ _ _ _ _ before.looks look
-    (λ rows. IsSourceAnswer c.item-item.result.src (rows_of c.args.channel rows.clips)
-    (grants_to c.args.channel rows.offers) c.in_ok-named.named.clips.items c.in_ok-named.named.grants.items)
-    c.in_ok-named.ensures.found in
-    record {
-      looks = looks_on s _ _ _ _ (looks_then s _ _ _ _ _ before.looks look);
-      clips = λ centre clean. c.in_ok-extend_from_slice.ensures.items
-          ∙ clips_more clips grants c.args.items.now c.loop-item.item-index c.item-item.result _ _ (omega arith)
-          c.item-item.is (before.clips centre (was_clean s _ _ _ look clean))
-          (c.deref.ensures.value ∙ (named centre clean).0);
-      grants = λ centre clean. c.in_ok-extend_from_slice-2.ensures.items
-          ∙ grants_more clips grants c.args.items.now c.loop-item.item-index c.item-item.result _ _ (omega arith)
-          c.item-item.is (before.grants centre (was_clean s _ _ _ look clean))
-          (c.deref-in-loop-item.ensures.value ∙ (named centre clean).1);
-    }
-
-pub returns-clause-found : goal.returns-clause-found
-returns-clause-found g c = λ centre clean.
+pub returns-then-sources-gt-FEW_SOURCES-clause-found : goal.returns-then-sources-gt-FEW_SOURCES-clause-found
+returns-then-sources-gt-FEW_SOURCES-clause-found g c = λ centre clean.
     let set = set_in (inside g.S.Store c.args.tx.now) in
-    let clips = rows_of c.args.channel set.clips in
-    let grants = grants_to c.args.channel set.offers in
-    let before = c.loop-item.invariant in
-    let whole = take_all c.loop-item.item-index c.args.items.now (omega arith) in
-    named_alike clips grants c.args.items.now c.loop-item.found.clips.items c.loop-item.found.grants.items
-    (before.clips centre clean ∙ ap (clips_named clips grants) whole)
-    (before.grants centre clean ∙ ap (grants_named clips grants) whole)
+    IfOk-weaker c.all_sources.result _ _
+    (λ found are.
+    all_alike c.args.sources.now (rows_of c.args.channel set.clips) found.clips.items
+    (grants_to c.args.channel set.offers) found.grants.items are.0 are.1) (c.all_sources.ensures.found centre clean)

@@ -14,6 +14,7 @@ use Rattle.channel_view_model.specs.Seen.{grants_to}
 use Rattle.channel_view_model.proofs.ViewLemmas.{found_channel}
 use Rattle.channel_view_model.specs.Centre.{plan_of, view_at, view_of}
 use Rattle.channel_view_model.specs.Need.{IsFetched, IsDayAnswer, IsAiringAnswer, AreSourceAnswers, items_asked}
+use Rattle.channel_view_model.specs.Need.{names_asked}
 use Rattle.channel_view_model.proofs.TableLemmas.{picked_is}
 use Rattle.station_tables_records.specs.Inside.{inside}
 use Rattle.station_tables_statements.specs.Calls.{set_in}
@@ -89,7 +90,8 @@ returns-clause-part g c centre clean owned rules known =
     clean_shown planned_is in
     let sources =
     set_before s _ _ _ _ _ offered c.in_ok-air.ensures.looks
-    (λ set. AreSourceAnswers need.sources (items_asked need.items c.in_ok-air.air.day) (rows_of plan.ch set.clips)
+    (λ set. AreSourceAnswers need.sources (items_asked need.items c.in_ok-air.air.day) (names_asked need.named)
+    (rows_of plan.ch set.clips)
     (grants_to plan.ch set.offers)
     c.in_ok-air.air.sources.clips.items c.in_ok-air.air.sources.grants.items) c.in_ok-air.ensures.sources centre
     clean_shown in
@@ -128,7 +130,8 @@ returns-clause-part g c centre clean owned rules known =
           (subst (λ k. IsAiringAnswer need.aired plan (of_channel k rows.aired) c.in_ok-aired.aired) mine aired);
       sources =
           subst
-          (λ k. AreSourceAnswers need.sources (items_asked need.items c.in_ok-air.air.day) (rows_of k rows.clips)
+          (λ k. AreSourceAnswers need.sources (items_asked need.items c.in_ok-air.air.day) (names_asked need.named)
+          (rows_of k rows.clips)
           (grants_to k rows.offers)
           c.in_ok-air.air.sources.clips.items c.in_ok-air.air.sources.grants.items) mine sources;
     })

@@ -8,7 +8,7 @@ use Rattle.vault_core.specs.Asked.{AreTapeAnswers, AreClipAnswers}
 use Rattle.grant_core.specs.Asked.{AreOfferAnswers}
 use Rattle.channel_view_model.specs.Tables.{rows_alone, rows_of}
 use Rattle.channel_view_model.specs.Centre.{IsInOrder}
-use Rattle.channel_view_model.specs.Need.{AreSourceAnswers, IsDayAnswer, IsAiringAnswer}
+use Rattle.channel_view_model.specs.Need.{AreSourceAnswers, IsDayAnswer, IsAiringAnswer, items_asked}
 use Rattle.channel_view_model.specs.Seen.{grants_to}
 use Rattle.channel_view_rules.proofs.BisectLemmas.{rises}
 use Rattle.channel_view.proofs.GrantPlaceLemmas.{sources_numbered}
@@ -81,8 +81,13 @@ returns c = λ rules known.
           aired c.in_ok-airing_found.ensures;
       sources =
           subst
-          (λ items. AreSourceAnswers c.args.need.now.sources items (rows_of c.args.channel c.args.self.now.clips)
+          (λ named. AreSourceAnswers c.args.need.now.sources
+          (items_asked c.args.need.now.items c.in_ok-day.day) named (rows_of c.args.channel c.args.self.now.clips)
           (grants_to c.args.channel c.args.self.now.offers) c.in_ok-sources.sources.clips.items
-          c.in_ok-sources.sources.grants.items) c.items_asked-items.ensures
-          (c.in_ok-sources.ensures (sources_numbered c.args.self.now c.args.channel c.args.plan rules known));
+          c.in_ok-sources.sources.grants.items) c.names_asked-named.ensures
+          (subst
+          (λ items. AreSourceAnswers c.args.need.now.sources items c.names_asked-named.result.now
+          (rows_of c.args.channel c.args.self.now.clips) (grants_to c.args.channel c.args.self.now.offers)
+          c.in_ok-sources.sources.clips.items c.in_ok-sources.sources.grants.items) c.items_asked-items.ensures
+          (c.in_ok-sources.ensures (sources_numbered c.args.self.now c.args.channel c.args.plan rules known)));
     }

@@ -1,0 +1,3 @@
+pub mod KnownLemmas
+mod LatestLemmas
+pub mod AtHandLemmas

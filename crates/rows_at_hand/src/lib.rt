@@ -1,0 +1,25 @@
+//! What is at hand of the rows of all channels, in stores over another one: so that a command that comes behind others
+//! needn't ask that for what it has told before.
+//!
+//! Each answers as the store below does, for the set of rows for which that stands. A change goes to the store below
+//! first, and what is at hand follows it.
+//!
+//! - [`RecentDays`] has at hand the days that were asked for or changed last, and what was aired of them, where that was
+//!   asked for. Who works on a day sends command after command, and each needs all its items, or all that was aired. The
+//!   store below is asked for these once (`specs/Known`).
+//! - [`VaultsAtHand`] may have all rows but days at hand, as lists in memory, and asks the store below for these only
+//!   where a look-up would walk over many (`specs/AtHand`). Where that store fails, they aren't at hand any more.
+//!
+//! At hand are at most [`MOST_DAYS`] days with at most [`MOST_ROWS`] rows (`few`, `few_rows`). Those that were asked for
+//! or changed least lately make room, and no more of them than have to (`LeavesLatest`). Where no memory is there for a
+//! day, it isn't at hand.
+#![tactic(auto)]
+
+mod at_hand;
+mod following;
+mod known;
+mod recent;
+
+pub use at_hand::VaultsAtHand;
+pub use known::{MOST_DAYS, MOST_ROWS};
+pub use recent::RecentDays;
