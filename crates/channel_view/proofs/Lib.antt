@@ -10,8 +10,8 @@ pub mod AgainLemmas
 pub mod DayPlaceLemmas
 pub mod GrantPlaceLemmas
 pub mod OrderLemmas
-mod PartTableLemmas
-mod PartViewLemmas
+pub mod PartTableLemmas
+pub mod PartViewLemmas
 mod PartRuleLemmas
 mod PartChangeLemmas
 mod PartLendLemmas

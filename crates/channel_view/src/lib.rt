@@ -22,6 +22,8 @@
 //! [`MemRows`] is a store of lists in memory. It stands for its lists where these keep the rules; `MemRows::new` is the
 //! plan alone, and takes only a plan (`plan`, `alone`, `only_a_plan`, `rules`). `MemRows::from_rows` takes any rows in
 //! order (`rows`, `none`). `MemRows::walks_far` says whether a look-up goes over many rows (`specs/Walks`).
+//!
+//! Rows that find what one source names ([`FindsSources`]) find what many do ([`sources_at`]).
 #![tactic(auto)]
 
 pub mod laws;
@@ -30,6 +32,7 @@ mod mem;
 mod mem_days;
 mod requests;
 mod runs;
+mod sources;
 
 pub use channel_plan::{At, Code, PlanRow, Refusal};
 pub use channel_view_model::{
@@ -41,4 +44,5 @@ pub use channel_view_rules::{decide, decide_part, keeps_rules};
 pub use mem::MemRows;
 pub use requests::{handle, prepare};
 pub use runs::run;
+pub use sources::{FindsSources, sources_at};
 pub use timecode::Unavailable;

@@ -20,7 +20,7 @@ ghost use Rattle.channel_view_model.specs.Tables.{alter_row, replace_row};
 ghost use Rattle.channel_view_model.specs.Seen.{grants_to};
 ghost use Rattle.channel_view_model.specs.Centre.{IsInOrder, plan_of, own_of, own_changed, day_changed};
 ghost use Rattle.channel_view_model.specs.Centre.{airing_changed, view_at, view_of};
-ghost use Rattle.channel_view_model.specs.Need.{AreSourceAnswers, IsFetched, IsPartOf, IsSourceAnswer, NamesAlike};
+ghost use Rattle.channel_view_model.specs.Need.{IsFetched, IsPartOf};
 ghost use Rattle.channel_view_model.specs.Rules.{KeepsRules};
 ghost use Rattle.channel_view_model.specs.TableText.{table_text, text_at};
 ghost use Rattle.channel_view.specs.Places.{AreSourcesNumbered};
@@ -28,18 +28,19 @@ ghost use Rattle.channel_view.specs.Walks.{has_many, walks_far};
 
 use crate::lending::write_lent_of;
 use crate::mem_days::{airing_found, day_found, just, set_day};
+use crate::sources::{FindsSources, sources_at};
 use asrun_match::DayAsRun;
 use channel_plan::{Code, PlanRow, Refusal, is_plan};
 use channel_view_model::{
-    CentreRows, Change, FEW_SOURCES, Need, Part, RowStore, SourcesAsked, Table, TableFault,
-    VaultChange, View, airings_alone, days_alone, items_asked, names_asked, sources_of,
+    CentreRows, Change, Need, Part, RowStore, Table, TableFault, VaultChange, View, airings_alone,
+    days_alone, items_asked, names_asked,
 };
 use channel_view_rules::{
     OfChannel, channel_end, channel_rows, channel_start, grants_to, without_channels,
     write_clips_of, write_days_of, write_offers_of, write_vault_of,
 };
 use grant_core::{Grant, LentRows, OffersAsked, OffersFound, OpenOffer, is_open_to};
-use playlist_core::{DayPlan, Item, Source, SourcesFound};
+use playlist_core::{DayPlan, Source, SourcesFound};
 use reports::RowFault;
 use std::alloc::Global;
 use std::io::Write;
@@ -111,6 +112,14 @@ impl MemRows {
         }
     }
 
+    /// Its rows, as they lie.
+    pub fn rows(&self) -> &CentreRows
+        ensures rows { result.now ≡ self.now }
+        ensures order { IsInOrder result.now }
+    {
+        &self.rows
+    }
+
     fn view_at(&self, channel: u16, plan: PlanRow) -> Result<View, Unavailable>
         ensures { IfOk result (λ v. v ≡ view_at channel self.now plan) }
     {
@@ -153,7 +162,7 @@ impl MemRows {
         let day = day_found(self.alloc, &plan, days, &need.day)?;
         let items = items_asked(need.items, &day);
         let named = names_asked(need.named);
-        let sources = self.sources_at(channel, need.sources, items, named)?;
+        let sources = sources_at(self.alloc, self, channel, need.sources, items, named)?;
         Ok(Part {
             plan,
             tapes: tapes_found(tapes, &need.tapes),
@@ -163,83 +172,6 @@ impl MemRows {
             aired: airing_found(self.alloc, &plan, aired, &need.aired)?,
             sources,
         })
-    }
-
-    // The clips and the lent clips that are asked for, of these items or these sources.
-    fn sources_at(
-        &self,
-        channel: u16,
-        asked: SourcesAsked,
-        items: &[Item],
-        named: &[Source],
-    ) -> Result<SourcesFound, Unavailable>
-        ensures { AreSourcesNumbered channel self.now →
-            IfOk result (λ found. AreSourceAnswers asked items.now named.now (rows_of channel self.now.clips)
-            (grants_to channel self.now.offers) found.clips.items found.grants.items) }
-    {
-        match asked {
-            SourcesAsked::Nothing => Ok(SourcesFound::nothing(self.alloc)),
-            SourcesAsked::One(source) => self.source_at(channel, source),
-            SourcesAsked::OfItems => {
-                let sources = sources_of(self.alloc, items)?;
-                self.sources_named(channel, &sources)
-            }
-            SourcesAsked::Named => self.sources_named(channel, named),
-        }
-    }
-
-    // What these sources name; of many, all.
-    fn sources_named(&self, channel: u16, sources: &[Source]) -> Result<SourcesFound, Unavailable>
-        ensures { AreSourcesNumbered channel self.now →
-            IfOk result (λ found. NamesAlike sources.now (rows_of channel self.now.clips)
-            (grants_to channel self.now.offers) found.clips.items found.grants.items) }
-    {
-        if sources.len() > FEW_SOURCES {
-            return self.all_sources(channel);
-        }
-        let mut found = SourcesFound::nothing(self.alloc);
-        for source in sources {
-            let named = self.source_at(channel, *source)?;
-            found.clips.extend_from_slice(&named.clips)?;
-            found.grants.extend_from_slice(&named.grants)?;
-        }
-        Ok(found)
-    }
-
-    // All of the channel's clips, and all that are lent to it.
-    fn all_sources(&self, channel: u16) -> Result<SourcesFound, Unavailable>
-        ensures { IfOk result (λ found. (found.clips.items ≡ rows_of channel self.now.clips)
-            × (found.grants.items ≡ grants_to channel self.now.offers)) }
-    {
-        Ok(SourcesFound {
-            clips: without_channels(self.alloc, channel_rows(&self.rows.clips, channel))?,
-            grants: grants_to(self.alloc, &self.rows.offers, channel)?,
-        })
-    }
-
-    // What a source names.
-    fn source_at(&self, channel: u16, source: Source) -> Result<SourcesFound, Unavailable>
-        ensures { AreSourcesNumbered channel self.now →
-            IfOk result (λ found. IsSourceAnswer source (rows_of channel self.now.clips)
-            (grants_to channel self.now.offers) found.clips.items found.grants.items) }
-    {
-        match source {
-            Source::Black | Source::Bars => Ok(SourcesFound::nothing(self.alloc)),
-            Source::Own(number) => {
-                let clips = channel_rows(&self.rows.clips, channel);
-                Ok(SourcesFound {
-                    clips: just(self.alloc, row_of(clips, number.get()))?,
-                    grants: Vec::new(self.alloc),
-                })
-            }
-            Source::Lent(owner, number) => {
-                let grant = grant_to(&self.rows.offers, channel, owner.get(), number.get());
-                Ok(SourcesFound {
-                    clips: Vec::new(self.alloc),
-                    grants: just(self.alloc, grant)?,
-                })
-            }
-        }
     }
 
     // A table of this channel, from the rows as they lie here.
@@ -325,6 +257,41 @@ impl MemRows {
                 Ok(true)
             }
         }
+    }
+}
+
+impl FindsSources for MemRows {
+    ghost is_found = { λ m c. AreSourcesNumbered c m };
+
+    ghost clips = { λ m c. rows_of c m.clips };
+
+    ghost grants = { λ m c. grants_to c m.offers };
+
+    fn source_at(&self, channel: u16, source: Source) -> Result<SourcesFound, Unavailable> {
+        match source {
+            Source::Black | Source::Bars => Ok(SourcesFound::nothing(self.alloc)),
+            Source::Own(number) => {
+                let clips = channel_rows(&self.rows.clips, channel);
+                Ok(SourcesFound {
+                    clips: just(self.alloc, row_of(clips, number.get()))?,
+                    grants: Vec::new(self.alloc),
+                })
+            }
+            Source::Lent(owner, number) => {
+                let grant = grant_to(&self.rows.offers, channel, owner.get(), number.get());
+                Ok(SourcesFound {
+                    clips: Vec::new(self.alloc),
+                    grants: just(self.alloc, grant)?,
+                })
+            }
+        }
+    }
+
+    fn all_sources(&self, channel: u16) -> Result<SourcesFound, Unavailable> {
+        Ok(SourcesFound {
+            clips: without_channels(self.alloc, channel_rows(&self.rows.clips, channel))?,
+            grants: grants_to(self.alloc, &self.rows.offers, channel)?,
+        })
     }
 }
 

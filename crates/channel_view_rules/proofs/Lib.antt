@@ -7,3 +7,4 @@ pub mod ItemLemmas
 pub mod LenderLemmas
 pub mod RunLemmas
 mod LentLemmas
+pub mod PlannedLemmas

@@ -24,6 +24,12 @@ use Rattle.playlist_core.specs.Source.{SourcesSeen, found, source_reel}
 use Rattle.playlist_core.specs.Item.{kind_text}
 use Rattle.playlist_core.specs.Day.{Day}
 use Rattle.playlist_edl.specs.declared.exporting.Line.{Line}
+use Rattle.playlist_edl.specs.declared.exporting.ReelText.{ReelText}
+use Rattle.playlist_edl.specs.declared.exporting.ReelText.TheVariants.{Black as ReelBlack, Bars as ReelBars}
+use Rattle.playlist_edl.specs.declared.exporting.ReelText.TheVariants.{Clip as ReelClip}
+use Rattle.playlist_edl.specs.declared.exporting.KindText.{KindText}
+use Rattle.playlist_edl.specs.declared.exporting.KindText.TheVariants.{Cut as KindCut, Dissolve as KindDissolve}
+use Rattle.playlist_edl.specs.declared.exporting.KindText.TheVariants.{Wipe as KindWipe}
 
 -- where a frame of the broadcast day stands in the day from 00:00:00:00
 abbrev pub record_frame : PlanRow → ℕ → ℕ
@@ -148,13 +154,24 @@ pub record CanBeListed (plan : PlanRow) (seen : SourcesSeen) (i : Item) : Type 0
   pub ends : i.src_first + i.frames ≤ day_length plan.rate
   pub title : IfSome (title_of seen i.src) (λ title. is_title title ≡ true)
 
+-- the text of a line's reel, and of its kind
+abbrev pub reel_shown : ReelText → List ℕ
+reel_shown ReelBlack = codes "BL"
+reel_shown ReelBars = codes "BARS"
+reel_shown (ReelClip text) = string_bytes text
+
+abbrev pub kind_shown : KindText → List ℕ
+kind_shown KindCut = codes "C"
+kind_shown KindDissolve = codes "D"
+kind_shown (KindWipe text) = string_bytes text
+
 -- a line that is to be written
 abbrev pub line_shown : Line → OutEntry
 line_shown line = record {
   number = line.number;
-  reel = string_bytes line.reel;
+  reel = reel_shown line.reel;
   channels = codes "V";
-  kind = string_bytes line.kind;
+  kind = kind_shown line.kind;
   duration = line.duration;
   source_first = line.source_first;
   source_end = line.source_end;

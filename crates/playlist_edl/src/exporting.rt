@@ -18,7 +18,7 @@ ghost use Rattle.playlist_edl.specs.Exporting.{duration_of as duration_in, has_w
 ghost use Rattle.playlist_edl.specs.Exporting.{item_ending as item_ending_in, item_line as item_line_of, line_shown};
 ghost use Rattle.playlist_edl.specs.Exporting.{outgoing_of, lines_from, note_before, note_text as note_text_of};
 ghost use Rattle.playlist_edl.specs.Exporting.{notes_of as notes_in, record_frame as record_frame_of};
-ghost use Rattle.playlist_edl.specs.Exporting.{title_of, title_text};
+ghost use Rattle.playlist_edl.specs.Exporting.{kind_shown, reel_shown, title_of, title_text};
 ghost use Rattle.playlist_core.specs.Source.{source_reel};
 ghost use Rattle.playlist_core.specs.Item.{kind_text as text_of_kind};
 
@@ -30,12 +30,52 @@ use std::fmt;
 use timecode::{Unavailable, day_frames};
 use vault_core::Title;
 
+// The reel of a line. Black and bars have the same text each time.
+#[derive(Drop)]
+enum ReelText {
+    Black,
+    Bars,
+    Clip(String),
+}
+
+impl ReelText {
+    fn as_str(&self) -> &str
+        ensures { result.now ≡ reel_shown self.now }
+    {
+        match self {
+            ReelText::Black => "BL",
+            ReelText::Bars => "BARS",
+            ReelText::Clip(text) => text.as_str(),
+        }
+    }
+}
+
+// The kind of a line. Only a wipe has a number.
+#[derive(Drop)]
+enum KindText {
+    Cut,
+    Dissolve,
+    Wipe(String),
+}
+
+impl KindText {
+    fn as_str(&self) -> &str
+        ensures { result.now ≡ kind_shown self.now }
+    {
+        match self {
+            KindText::Cut => "C",
+            KindText::Dissolve => "D",
+            KindText::Wipe(text) => text.as_str(),
+        }
+    }
+}
+
 // A line that is to be written, with its texts.
 #[derive(Drop)]
 struct Line {
     number: u16,
-    reel: String,
-    kind: String,
+    reel: ReelText,
+    kind: KindText,
     duration: Option<u16>,
     source_first: u32,
     source_end: u32,
@@ -159,7 +199,7 @@ fn lines_of<S: Sources>(
     ensures { IfOk result (λ lines. map line_shown lines.items
         ≡ lines_from plan.now (S.seen sources.now) items.now 1 items.now) }
 {
-    let mut lines = Vec::new(alloc);
+    let mut lines = Vec::with_capacity(alloc, items.len())?;
     for (k, item) in items.iter().enumerate() {
         let number = k as u16 + 1;
         let before = item_before(items, k);
@@ -278,16 +318,25 @@ fn cut_line<S: Sources>(
     })
 }
 
-fn reel_of(alloc: Global, source: Source) -> Result<String, AllocError>
-    ensures { IfOk result (λ text. string_bytes text ≡ source_reel source) }
+fn reel_of(alloc: Global, source: Source) -> Result<ReelText, AllocError>
+    ensures { IfOk result (λ text. reel_shown text ≡ source_reel source) }
 {
-    format!(in alloc; "{source}")
+    match source {
+        Source::Black => Ok(ReelText::Black),
+        Source::Bars => Ok(ReelText::Bars),
+        Source::Own(_number) => Ok(ReelText::Clip(format!(in alloc; "{source}")?)),
+        Source::Lent(_owner, _number) => Ok(ReelText::Clip(format!(in alloc; "{source}")?)),
+    }
 }
 
-fn kind_text(alloc: Global, kind: EditKind) -> Result<String, AllocError>
-    ensures { IfOk result (λ text. string_bytes text ≡ text_of_kind kind) }
+fn kind_text(alloc: Global, kind: EditKind) -> Result<KindText, AllocError>
+    ensures { IfOk result (λ text. kind_shown text ≡ text_of_kind kind) }
 {
-    format!(in alloc; "{kind}")
+    match kind {
+        EditKind::Cut => Ok(KindText::Cut),
+        EditKind::Dissolve => Ok(KindText::Dissolve),
+        EditKind::Wipe(_number) => Ok(KindText::Wipe(format!(in alloc; "{kind}")?)),
+    }
 }
 
 // A cut has no duration.
@@ -358,7 +407,7 @@ fn text_of(bytes: &[u8]) -> &str
 fn events_of<'a>(alloc: Global, lines: &'a [Line]) -> Result<Vec<OutEvent<'a>>, AllocError>
     ensures { IfOk result (λ events. outs_of events.items ≡ map line_shown lines.now) }
 {
-    let mut events = Vec::new(alloc);
+    let mut events = Vec::with_capacity(alloc, lines.len())?;
     for line in lines {
         events.push(event_of(alloc, line)?)?;
     }

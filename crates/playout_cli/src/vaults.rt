@@ -1,9 +1,10 @@
 //! The vaults of all channels at hand, over the tables that hold them.
-ghost use Rattle.std.specs.Prelude.{◌≤◌, IfSome};
+ghost use Rattle.std.specs.Prelude.{◌≡◌, ◌≤◌, IfSome};
 ghost use Rattle.sqlite.specs.State.{HasCleanDisk};
 ghost use Rattle.sqlite.specs.Held.{state};
 ghost use Rattle.channel_view_model.specs.Centre.{Centre};
 ghost use Rattle.rows_at_hand.specs.AtHand.{AreVaultsOf};
+ghost use Rattle.rows_at_hand.specs.Vaults.{vaults_in};
 ghost use Rattle.station_tables_reading.specs.Vaults.{bytes_of};
 ghost use Rattle.station_tables.specs.Store.{StandsWithPlan};
 ghost use Rattle.station_tables.specs.Tables.{MayLeave};
@@ -15,9 +16,8 @@ use sqlite::Alter;
 use station_tables::SqlRows;
 use std::alloc::Global;
 
-// The most bytes that the tapes, the clips and the offers at hand take, by their rows. So few, since a new row moves
-// those of the channels behind it.
-const MOST_VAULT_BYTES: usize = 1 << 20;
+// The most bytes that the tapes, the clips and the offers at hand take, by their rows: 64 MB.
+const MOST_VAULT_BYTES: usize = 1 << 26;
 
 /// A store over these tables that has the vaults of all channels at hand, where they are few enough and memory is there
 /// for them.
@@ -28,11 +28,12 @@ pub(crate) fn with_vaults<S: Alter>(alloc: Global, tables: SqlRows<S>) -> Vaults
         StandsWithPlan S.Store result.store rows × IfSome result.vaults (AreVaultsOf rows) }
     ensures stop { HasCleanDisk (state S.Store result.store.conn) → (left : Centre) →
         MayLeave (state S.Store result.store.conn) left → MayLeave (state S.Store tables.conn) left }
-    ensures few { IfSome result.vaults (λ v. bytes_of v ≤ most_vault_bytes) }
+    ensures few { IfSome result.vaults (λ v. (read : Centre) × (v.each.items ≡ vaults_in read)
+        × (bytes_of read ≤ most_vault_bytes)) }
 {
     let mut tables = tables;
     match tables.vaults(MOST_VAULT_BYTES) {
-        Ok(Some(rows)) => VaultsAtHand::over(tables, MemRows::from_rows(alloc, rows)),
-        Ok(None) | Err(_) => VaultsAtHand::over(tables, None),
+        Ok(Some(rows)) => VaultsAtHand::over(alloc, tables, MemRows::from_rows(alloc, rows)),
+        Ok(None) | Err(_) => VaultsAtHand::over(alloc, tables, None),
     }
 }

@@ -1,3 +1,4 @@
 pub mod KnownLemmas
 mod LatestLemmas
+pub mod VaultLemmas
 pub mod AtHandLemmas

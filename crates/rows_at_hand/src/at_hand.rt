@@ -2,12 +2,15 @@
 ghost use Rattle.std.specs.Prelude.{◌≡◌, IfOk, IfSome, OnOk, OnErr, Some};
 ghost use Rattle.channel_view_model.specs.Centre.{Centre, IsChangeOf, changed, view_of};
 ghost use Rattle.channel_view_model.specs.Need.{IsFetched};
-ghost use Rattle.rows_at_hand.specs.AtHand.{AreVaultsOf, is_at_hand, of_days};
+ghost use Rattle.rows_at_hand.specs.Vaults.{is_at_hand, vaults_in};
+ghost use Rattle.rows_at_hand.specs.AtHand.{AreVaultsOf, of_days};
 
 use crate::recent::{beside_day, with_airing, with_day};
+use crate::vaults::Vaults;
 use channel_view::MemRows;
 use channel_view_model::{Change, Need, Part, RowStore, SourcesAsked, Table, TableFault, View};
 use grant_core::OffersAsked;
+use std::alloc::Global;
 use std::io::Write;
 use timecode::Unavailable;
 use vault_core::{ClipsAsked, TapesAsked};
@@ -18,15 +21,20 @@ use vault_core::{ClipsAsked, TapesAsked};
 #[derive(Drop)]
 pub struct VaultsAtHand<S> {
     store: S,
-    vaults: Option<MemRows>,
+    vaults: Option<Vaults>,
 }
 
 impl<S> VaultsAtHand<S> {
-    /// Over this store, with these of its rows at hand.
-    pub fn over(store: S, vaults: Option<MemRows>) -> VaultsAtHand<S>
+    /// Over this store, with the vaults of these of its rows at hand, where memory is there for them.
+    pub fn over(alloc: Global, store: S, rows: Option<MemRows>) -> VaultsAtHand<S>
         ensures store { result.store ≡ store }
-        ensures vaults { result.vaults ≡ vaults }
+        ensures vaults { IfSome result.vaults (λ vaults. (set : Centre) × (rows ≡ Some set)
+            × (vaults.each.items ≡ vaults_in set)) }
     {
+        let vaults = match rows {
+            Some(rows) => Vaults::of(alloc, &rows),
+            None => None,
+        };
         VaultsAtHand { store, vaults }
     }
 
@@ -60,7 +68,7 @@ fn of_days<'a>(need: &Need<'_>) -> Need<'a>
 
 // The part that a command needs, of the vaults at hand and of this part, which has what it needs of days.
 fn part_of_both(
-    vaults: &MemRows,
+    vaults: &Vaults,
     channel: u16,
     need: &Need<'_>,
     days: Part,
@@ -80,11 +88,11 @@ fn part_of_both(
 
 // What is at hand once the store below made a change of the channel, or failed: then nothing.
 fn after_commit(
-    vaults: Option<MemRows>,
+    vaults: Option<Vaults>,
     channel: u16,
     change: &Change,
     made: &Result<(), Unavailable>,
-) -> Option<MemRows>
+) -> Option<Vaults>
     ensures made { OnOk made.now ((rows : Centre) → IfSome vaults (AreVaultsOf rows) →
         IsChangeOf channel change.now rows → IfSome result (AreVaultsOf (changed channel change.now rows))) }
     ensures failed { OnErr made.now (result ≡ None) }
@@ -103,7 +111,7 @@ fn after_commit(
 }
 
 // Lets go what is at hand, as the store below failed with this fault.
-fn let_go<F>(vaults: &mut Option<MemRows>, fault: F) -> F
+fn let_go<F>(vaults: &mut Option<Vaults>, fault: F) -> F
     ensures fault { result ≡ fault }
     ensures none { vaults.new ≡ None }
 {

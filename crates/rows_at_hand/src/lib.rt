@@ -7,8 +7,9 @@
 //! - [`RecentDays`] has at hand the days that were asked for or changed last, and what was aired of them, where that was
 //!   asked for. Who works on a day sends command after command, and each needs all its items, or all that was aired. The
 //!   store below is asked for these once (`specs/Known`).
-//! - [`VaultsAtHand`] may have all rows but days at hand, as lists in memory, and asks the store below for these only
-//!   where a look-up would walk over many (`specs/AtHand`). Where that store fails, they aren't at hand any more.
+//! - [`VaultsAtHand`] may have all rows but days at hand, as each channel's lists in memory ([`Vaults`]), and asks the
+//!   store below for these only where a look-up would walk over many (`specs/AtHand`). Where that store fails, they aren't
+//!   at hand any more.
 //!
 //! At hand are at most [`MOST_DAYS`] days with at most [`MOST_ROWS`] rows (`few`, `few_rows`). Those that were asked for
 //! or changed least lately make room, and no more of them than have to (`LeavesLatest`). Where no memory is there for a
@@ -19,7 +20,9 @@ mod at_hand;
 mod following;
 mod known;
 mod recent;
+mod vaults;
 
 pub use at_hand::VaultsAtHand;
 pub use known::{MOST_DAYS, MOST_ROWS};
 pub use recent::RecentDays;
+pub use vaults::{Vault, Vaults};

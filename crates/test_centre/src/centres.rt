@@ -189,7 +189,7 @@ pub(crate) fn with_vaults(
         Ok(Some(rows)) => MemRows::from_rows(alloc, rows),
         Ok(None) | Err(_) => None,
     };
-    VaultsAtHand::over(tables, vaults)
+    VaultsAtHand::over(alloc, tables, vaults)
 }
 
 // The same over tables, with their vaults at hand once all have asked.
@@ -219,7 +219,7 @@ fn is_asked_of_no_store(rt: &impl Abort, alloc: Global, centre: u16) -> Result<(
         Ok(Some(rows)) => MemRows::from_rows(alloc, rows),
         Ok(None) | Err(_) => None,
     };
-    let mut store = VaultsAtHand::over(Recording::over(tables, 1), vaults);
+    let mut store = VaultsAtHand::over(alloc, Recording::over(tables, 1), vaults);
     let answered = match asked {
         Ok(()) => are_answered(rt, alloc, &mut store, TABLES_AT_FIRST),
         Err(fail) => Err(fail),

@@ -1,4 +1,3 @@
-use channel_view::laws::questions_of_picked_rows_agree;
 use edl::laws::written_lists_are_read_back;
 use timecode::laws;
 use vault_core::Tape;
@@ -12,5 +11,4 @@ fn laws_hold() {
     laws::two_labels_a_minute_are_dropped();
     written_lists_are_read_back();
     questions_of_a_list_agree::<Tape>();
-    questions_of_picked_rows_agree::<(u16, Tape), Tape>();
 }

@@ -1,7 +1,7 @@
 //! Tests of the crates of values, of what no conversation of `tests/conversations` reaches: labels counted one by one,
 //! days and what was aired of them beside plain walks over their frames, a full day as a list and back, writers that
-//! fail, parts of what a channel sees, what the libraries offer beyond the program, and laws. They stand here, so that
-//! none of these crates is proved twice.
+//! fail, what the libraries offer beyond the program, and laws. They stand here, so that none of these crates is proved
+//! twice.
 #![tactic(auto)]
 
 #[cfg(test)]
@@ -28,8 +28,6 @@ mod laws;
 mod libraries;
 #[cfg(test)]
 mod own_rows;
-#[cfg(test)]
-mod requests;
 #[cfg(test)]
 mod tables;
 #[cfg(test)]

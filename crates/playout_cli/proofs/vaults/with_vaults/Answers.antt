@@ -1,32 +1,62 @@
 -- `with_vaults`: the tables with the vaults of all channels at hand.
-use Rattle.std.proofs.Common.{◌≡◌, ◌∙◌, Option, Some, None, IfSome, sym, subst}
+use Rattle.std.proofs.Common.{◌≡◌, ◌≤◌, ℕ, [], ◌∙◌, Option, Some, None, IfSome, sym, ap, subst}
 use Rattle.sqlite.specs.State.{HasCleanDisk}
 use Rattle.sqlite.specs.Held.{state}
 use Rattle.channel_view_model.specs.Centre.{Centre}
 use Rattle.channel_view_model.specs.Rules.{KeepsRules}
-use Rattle.rows_at_hand.specs.AtHand.{AreVaultsOf, vaults_of}
-use Rattle.station_tables_reading.specs.Vaults.{AreVaultsRead}
+use Rattle.rows_at_hand.specs.declared.vaults.Vaults.{Vaults}
+use Rattle.rows_at_hand.specs.AtHand.{AreVaultsOf}
+use Rattle.rows_at_hand.specs.Vaults.{vaults_in}
+use Rattle.station_tables_reading.specs.Vaults.{AreVaultsRead, bytes_of}
 use Rattle.station_tables.specs.Store.{StandsWithPlan}
 use Rattle.station_tables.specs.Tables.{MayLeave}
 use Rattle.playout_cli.specs.Vaults.{most_vault_bytes}
 use Rattle.playout_cli.proofs.vaults.with_vaults.Goals as goal
 
--- the vaults that were read are at hand
-at_hand : (rows read : Centre) (o : Option Centre) → KeepsRules rows → read ≡ vaults_of rows → IfSome o (λ m. m ≡ read)
-    → IfSome o (AreVaultsOf rows)
-at_hand rows read None rules are same = tt
-at_hand rows read (Some m) rules are same = record { rules = rules; are = same ∙ are }
+-- the vaults at hand are those of a set
+abbrev AreMade : Option Centre → Option Vaults → Type 0
+AreMade o v = IfSome v (λ vaults. (set : Centre) × (o ≡ Some set) × (vaults.each.items ≡ vaults_in set))
+
+-- what was read is at hand
+at_hand : (rows read : Centre) (o : Option Centre) (v : Option Vaults) → KeepsRules rows
+    → read ≡ record rows { days = []; aired = [] } → IfSome o (λ m. m ≡ read) → AreMade o v
+    → IfSome v (AreVaultsOf rows)
+at_hand rows read o None rules is same made = tt
+at_hand rows read o (Some vaults) rules is same (set, whole, are) =
+    record {
+      rules = rules;
+      are = are ∙ ap vaults_in (subst (λ r. IfSome r (λ m. m ≡ read)) whole same ∙ is);
+    }
+
+few_at_hand : (most : ℕ) (read : Centre) (o : Option Centre) (v : Option Vaults) → bytes_of read ≤ most
+    → IfSome o (λ m. m ≡ read) → AreMade o v
+    → IfSome v (λ vaults. (read : Centre) × (vaults.each.items ≡ vaults_in read) × (bytes_of read ≤ most))
+few_at_hand most read o None few same made = tt
+few_at_hand most read o (Some vaults) few same (set, whole, are) =
+    (read, are ∙ ap vaults_in (subst (λ r. IfSome r (λ m. m ≡ read)) whole same), few)
+
+-- nothing was
+none_at_hand : (P : Vaults → Type 0) (v : Option Vaults) → AreMade None v → IfSome v P
+none_at_hand P None made = tt
+none_at_hand P (Some vaults) (set, never, are) = absurd (cc)
 
 pub returns-in-Ok-Some-clause-stands : goal.returns-in-Ok-Some-clause-stands
 returns-in-Ok-Some-clause-stands g c clean rows stands =
     let now = subst (λ t. HasCleanDisk (state g.S.Store t.conn)) c.over.ensures.store clean in
     let read =
-    subst (AreVaultsRead rows most_vault_bytes) c.in-Ok-Some.field-0-is (c.in-Ok-Some.ensures.vaults now rows stands) in (
+    subst (AreVaultsRead rows most_vault_bytes) c.in-Ok-Some.field-0-is (c.in-Ok-Some.ensures.vaults now rows stands)
+    in (
       subst (λ t. StandsWithPlan g.S.Store t rows) (sym c.over.ensures.store) (c.vaults.ensures.same now rows stands),
-      subst (λ v. IfSome v (AreVaultsOf rows)) (sym c.over.ensures.vaults)
-          (at_hand rows c.in-Ok-Some.rows c.from_rows.result (c.in-Ok-Some.ensures.rules now rows stands) read
-          c.from_rows.ensures.rows),
+      at_hand rows c.in-Ok-Some.rows c.from_rows.result c.over.result.vaults
+          (c.in-Ok-Some.ensures.rules now rows stands) read c.from_rows.ensures.rows c.over.ensures.vaults,
     )
+
+pub returns-in-Ok-Some-clause-few : goal.returns-in-Ok-Some-clause-few
+returns-in-Ok-Some-clause-few g c =
+    let few =
+    subst (λ o. IfSome o (λ v. bytes_of v ≤ most_vault_bytes)) c.in-Ok-Some.field-0-is c.in-Ok-Some.ensures.few in
+    few_at_hand most_vault_bytes c.in-Ok-Some.rows c.from_rows.result c.over.result.vaults few
+    c.from_rows.ensures.rows c.over.ensures.vaults
 
 pub returns-in-Ok-Some-clause-stop : goal.returns-in-Ok-Some-clause-stop
 returns-in-Ok-Some-clause-stop g c clean left may =
@@ -38,8 +68,11 @@ returns-in-Ok-None-clause-stands g c clean rows stands = (
   subst (λ t. StandsWithPlan g.S.Store t rows) (sym c.over-in-Ok-None.ensures.store)
       (c.vaults.ensures.same
       (subst (λ t. HasCleanDisk (state g.S.Store t.conn)) c.over-in-Ok-None.ensures.store clean) rows stands),
-  subst (λ v. IfSome v (AreVaultsOf rows)) (sym c.over-in-Ok-None.ensures.vaults) tt,
+  none_at_hand _ c.over-in-Ok-None.result.vaults c.over-in-Ok-None.ensures.vaults,
 )
+
+pub returns-in-Ok-None-clause-few : goal.returns-in-Ok-None-clause-few
+returns-in-Ok-None-clause-few g c = none_at_hand _ c.over-in-Ok-None.result.vaults c.over-in-Ok-None.ensures.vaults
 
 pub returns-in-Ok-None-clause-stop : goal.returns-in-Ok-None-clause-stop
 returns-in-Ok-None-clause-stop g c clean left may =

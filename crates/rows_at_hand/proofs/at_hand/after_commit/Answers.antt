@@ -1,6 +1,6 @@
 -- `after_commit`: what is at hand once the store below made a change.
 use Rattle.std.proofs.Common.{◌∙◌, sym}
-use Rattle.rows_at_hand.proofs.AtHandLemmas.{err_never, ok_so, rules_at_hand, others_followed, change_followed}
+use Rattle.rows_at_hand.proofs.AtHandLemmas.{err_never, ok_so, rules_at_hand, others_followed}
 use Rattle.rows_at_hand.proofs.at_hand.after_commit.Goals as goal
 
 pub returns-in_default : goal.returns-in_default
@@ -18,6 +18,5 @@ pub returns-in-Ok-clause-made : goal.returns-in-Ok-clause-made
 returns-in-Ok-clause-made c =
     ok_so c.args.made.now
     (λ rows at is.
-    change_followed rows c.in_ok-vaults.vaults c.commit.new.self c.args.channel c.args.change.now c.in-Vault.field-0
-    c.in-Vault.field-1 c.in-Vault.is (rules_at_hand rows c.args.vaults c.in_ok-vaults.vaults c.in_ok-vaults.was at) is
-    (λ set stands. c.in-Ok.ensures.ok tt set stands))
+    c.in-Ok.ensures rows c.in-Vault.field-0 c.in-Vault.field-1 c.in-Vault.is
+    (rules_at_hand rows c.args.vaults c.in_ok-vaults.vaults c.in_ok-vaults.was at) is)

@@ -1,16 +1,10 @@
 -- `VaultsAtHand::fetch`: a part of the vaults at hand, where no day is asked for.
 use Rattle.std.proofs.Common.{◌∙◌, ap}
 use Rattle.std.specs.Prelude.{not}
-use Rattle.std.proofs.lemmas.Result.{IfOk-weaker}
-use Rattle.rows_at_hand.proofs.AtHandLemmas.{fetched_at_hand, keep_at_hand, rules_at_hand}
+use Rattle.rows_at_hand.proofs.AtHandLemmas.{rules_at_hand}
 use Rattle.rows_at_hand.proofs.at_hand.VaultsAtHandRowStore.fetch.Goals as goal
 
 pub returns-then-is_none-2-clause-part : goal.returns-then-is_none-2-clause-part
 returns-then-is_none-2-clause-part g c clean rows stands =
-    let at = rules_at_hand rows c.args.self.now.vaults c.in-Some.vaults c.in-Some.is stands.1 in
-    IfOk-weaker c.part.result _ _
-    (λ part fetched.
-    fetched_at_hand rows c.in-Some.vaults c.args.channel c.args.need.now part at
-    (c.is_none.ensures ∙ ap not c.if-is_none.true)
-    (c.is_none-then-is_none.ensures ∙ ap not c.if-is_none-2.true) fetched)
-    (c.part.ensures (keep_at_hand rows c.in-Some.vaults at))
+    c.part.ensures rows (rules_at_hand rows c.args.self.now.vaults c.in-Some.vaults c.in-Some.is stands.1)
+    (c.is_none.ensures ∙ ap not c.if-is_none.true) (c.is_none-then-is_none.ensures ∙ ap not c.if-is_none-2.true)

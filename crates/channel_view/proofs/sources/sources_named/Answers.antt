@@ -1,25 +1,23 @@
--- `MemRows::sources_named`: what sources name, or all.
+-- `sources_named`: what sources name, or all.
 use Rattle.std.proofs.Common.{◌∙◌, ap, arith}
 use Rattle.std.proofs.lemmas.List.{take_all}
 use Rattle.std.proofs.lemmas.Result.{IfOk-weaker}
-use Rattle.channel_view_model.specs.Tables.{rows_of}
-use Rattle.channel_view_model.specs.Seen.{grants_to}
 use Rattle.channel_view_model.proofs.NamedLemmas.{all_alike, clips_more, grants_more, clips_named, grants_named}
 use Rattle.channel_view_model.proofs.NamedLemmas.{named_alike}
-use Rattle.channel_view.proofs.mem.MemRows.sources_named.Goals as goal
+use Rattle.channel_view.proofs.sources.sources_named.Goals as goal
 
 pub returns-then-sources-gt-FEW_SOURCES : goal.returns-then-sources-gt-FEW_SOURCES
-returns-then-sources-gt-FEW_SOURCES c = λ numbered.
-    let clips = rows_of c.args.channel c.args.self.now.clips in
-    let grants = grants_to c.args.channel c.args.self.now.offers in
+returns-then-sources-gt-FEW_SOURCES g c = λ numbered.
+    let clips = g.R.FindsSources.clips c.args.rows.now c.args.channel in
+    let grants = g.R.FindsSources.grants c.args.rows.now c.args.channel in
     IfOk-weaker c.all_sources.result _ _
     (λ found are.
-    all_alike c.args.sources.now clips found.clips.items grants found.grants.items are.0 are.1) c.all_sources.ensures
+    all_alike c.args.sources.now clips found.clips.items grants found.grants.items are.0 are.1) (c.all_sources.ensures numbered)
 
 pub loop-source-preserved : goal.loop-source-preserved
-loop-source-preserved c = λ numbered.
-    let clips = rows_of c.args.channel c.args.self.now.clips in
-    let grants = grants_to c.args.channel c.args.self.now.offers in
+loop-source-preserved g c = λ numbered.
+    let clips = g.R.FindsSources.clips c.args.rows.now c.args.channel in
+    let grants = g.R.FindsSources.grants c.args.rows.now c.args.channel in
     let front = c.loop-source.invariant numbered in
     let named = c.in_ok-named.ensures numbered in (
       c.in_ok-extend_from_slice.ensures.items
@@ -32,9 +30,9 @@ loop-source-preserved c = λ numbered.
     )
 
 pub returns : goal.returns
-returns c = λ numbered.
-    let clips = rows_of c.args.channel c.args.self.now.clips in
-    let grants = grants_to c.args.channel c.args.self.now.offers in
+returns g c = λ numbered.
+    let clips = g.R.FindsSources.clips c.args.rows.now c.args.channel in
+    let grants = g.R.FindsSources.grants c.args.rows.now c.args.channel in
     let front = c.loop-source.invariant numbered in
     let whole = take_all c.loop-source.source-index c.args.sources.now (omega arith) in
     named_alike clips grants c.args.sources.now c.loop-source.found.clips.items c.loop-source.found.grants.items

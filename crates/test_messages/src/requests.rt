@@ -1,8 +1,7 @@
 //! What a store in memory gives of what a channel sees, and what is decided by it.
 use crate::asserts::same;
-use crate::days::AT_25;
 use channel_plan::PlanRow;
-use channel_view::laws::stores_answer_alike;
+use channel_view::laws::{questions_of_picked_rows_agree, stores_answer_alike};
 use channel_view::{MemRows, handle, prepare, run};
 use channel_view_model::{
     Change, Command, Need, Outcome, Reply, RowStore, Table, TableText, VaultChange, VaultCommand,
@@ -11,12 +10,21 @@ use channel_view_rules::decide;
 use std::alloc::{AllocError, Global};
 use std::process::Abort;
 use std::test::Fail;
-use vault_core::{Put, RawText, TapeCommand};
+use timecode::Rate;
+use vault_core::{Put, RawText, Tape, TapeCommand};
 
-// Channels 1 and 2.
+const CHANNEL_1: PlanRow = PlanRow {
+    ch: 1,
+    rate: Rate::F25,
+    start: 540_000,
+    slots: 40,
+};
+
+const CHANNEL_2: PlanRow = PlanRow { ch: 2, ..CHANNEL_1 };
+
 fn store_of(alloc: Global) -> Result<MemRows, Fail> {
-    let other = PlanRow { ch: 2, ..AT_25 };
-    Ok(MemRows::new(alloc, &[AT_25, other]).ok().ok_or("a plan")?)
+    let store = MemRows::new(alloc, &[CHANNEL_1, CHANNEL_2]);
+    Ok(store.ok().ok_or("a plan")?)
 }
 
 fn add_tape(alloc: Global, barcode: &str, slot: u32) -> Result<Command, AllocError> {
@@ -112,4 +120,9 @@ fn two_stores_answer_alike(rt: HostRuntime) -> Result<(), Fail> {
     same(&rt, &said.0, &added(1));
     same(&rt, said.1, said.0);
     Ok(())
+}
+
+#[test]
+fn laws_hold() {
+    questions_of_picked_rows_agree::<(u16, Tape), Tape>();
 }

@@ -9,7 +9,7 @@ use Rattle.channel_view_model.proofs.SourceLemmas.{status_answer, lent_answer}
 use Rattle.std.specs.List.Sorted.{IsNonDecreasingBy}
 use Rattle.channel_view_model.specs.Centre.{IsInOrder}
 use Rattle.channel_view_rules.proofs.BisectLemmas.{rises}
-use Rattle.channel_view.proofs.mem.MemRows.source_at.Goals as goal
+use Rattle.channel_view.proofs.mem.MemRowsFindsSources.source_at.Goals as goal
 
 pub channel_rows-clips-requires : goal.channel_rows-clips-requires
 channel_rows-clips-requires c =

@@ -3,7 +3,7 @@ use Rattle.std.proofs.Common.{sym, subst, ap}
 use Rattle.std.specs.List.Sorted.{IsNonDecreasingBy}
 use Rattle.channel_view_model.specs.Centre.{IsInOrder}
 use Rattle.channel_view_rules.proofs.BisectLemmas.{rises}
-use Rattle.channel_view.proofs.mem.MemRows.all_sources.Goals as goal
+use Rattle.channel_view.proofs.mem.MemRowsFindsSources.all_sources.Goals as goal
 
 pub channel_rows-requires : goal.channel_rows-requires
 channel_rows-requires c =
