@@ -1,14 +1,10 @@
-//! Tests of messages, streams, faults and connections over rows in memory, of what no conversation of
-//! `tests/conversations` reaches: streams that are cut at each place, readers and writers that fail at each byte, a stream
-//! without end, messages by themselves, and parts of what a channel sees. Of connections that are open at once: 10,000
-//! random events of a schedule over connections in memory, by seed, that each has its turn, and sockets. They stand in one
-//! crate, so that what they all need is loaded once.
+//! Tests of messages, streams and faults over rows in memory, of what no conversation of `tests/conversations` reaches:
+//! streams that are cut at each place, readers and writers that fail at each byte, a stream without end, messages by
+//! themselves, and parts of what a channel sees.
 #![tactic(auto)]
 
 #[cfg(test)]
 mod asserts;
-#[cfg(test)]
-mod door;
 #[cfg(test)]
 mod faults;
 #[cfg(test)]
@@ -18,12 +14,6 @@ mod requests;
 #[cfg(test)]
 mod rows;
 #[cfg(test)]
-mod schedule;
-#[cfg(test)]
-mod sockets;
-#[cfg(test)]
 mod streams;
-#[cfg(test)]
-mod turns;
 #[cfg(test)]
 mod words;
