@@ -110,7 +110,8 @@ pub fn answer_tables<S: Alter, R: Read, W: Write>(
         Ok(opened) => {
             let mut store = RecentDays::over(alloc, with_vaults(alloc, opened));
             let done = answer_over(alloc, &mut store, input, output);
-            let conn = store.into_store().into_store().into_connection();
+            let tables = store.into_store().into_store().into_store();
+            let conn = tables.into_connection();
             match done {
                 Ok(()) => (conn, Ok(())),
                 Err(fault) => (conn, Err(Fault::Stream(fault))),

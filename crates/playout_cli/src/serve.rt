@@ -227,7 +227,8 @@ pub fn serve_tables<S: Alter, P: Ports, W: Write, E: FaultWriter>(
         Ok(opened) => {
             let mut store = RecentDays::over(alloc, with_vaults(alloc, opened));
             let served = serve_port(alloc, ports, &mut store, asked, output, faults);
-            (store.into_store().into_store().into_connection(), served)
+            let tables = store.into_store().into_store().into_store();
+            (tables.into_connection(), served)
         }
         Err((conn, refusal)) => (conn, Err(Fault::Refused(refusal))),
     }

@@ -144,12 +144,12 @@ own_leaves_airings c b n (ClipRow k) rows = refl
 own_leaves_airings c b n (OfferRow o) rows = refl
 
 -- a row in its place is found there, and the others as before
-found_replaced : {A : Type 0} (key : A → ℕ) (x : A) (xs : List A)
+pub found_replaced : {A : Type 0} (key : A → ℕ) (x : A) (xs : List A)
     → find (λ d. key d == key x) (replaced key x xs) ≡ Some x
 found_replaced key x [] = grind (arith, nat_tests)
 found_replaced key x (d ∷ ds) = grind (arith, nat_tests, found_replaced key x ds)
 
-found_past : {A : Type 0} (key : A → ℕ) (x : A) (n : ℕ) (xs : List A) → (key x == n) ≡ false
+pub found_past : {A : Type 0} (key : A → ℕ) (x : A) (n : ℕ) (xs : List A) → (key x == n) ≡ false
     → find (λ d. key d == n) (replaced key x xs) ≡ find (λ d. key d == n) xs
 found_past key x n [] other = grind (arith, nat_tests, other)
 found_past key x n (d ∷ ds) other = grind (arith, nat_tests, other, found_past key x n ds other)

@@ -11,7 +11,7 @@ use Rattle.std.proofs.lemmas.List.Filters.{length-filter_both, sum_by-filter_bot
 use Rattle.std.proofs.lemmas.List.Sums.{sum_by_push, sum_by-remove, sum_by-take-drop}
 use Rattle.channel_view_model.specs.Centre.{Centre}
 use Rattle.rows_at_hand.specs.declared.known.KnownDay.{KnownDay}
-use Rattle.rows_at_hand.specs.Known.{AreKnown, Inserts, IsAskedLast, IsKnown, has_room, is_day_of}
+use Rattle.rows_at_hand.specs.Known.{AreKnown, Inserts, IsAskedLast, IsKnown, has_room}
 use Rattle.rows_at_hand.specs.Known.{most_days, most_rows, rows_at_hand, rows_in}
 
 -- a day that was asked for last is known as before, and so are the others
@@ -59,14 +59,14 @@ filter-removed p (x ∷ xs) (suc i) d within out =
     ap (λ ys. cond (p x) (x ∷ ys) ys) rest
 
 -- where none is left out, all stay
-pub none_out : (c n : ℕ) (days : List KnownDay) → All (λ k. is_day_of c n k ≡ false) days
-    → filter (λ k. not (is_day_of c n k)) days ≡ days
-none_out c n [] others = refl
-none_out c n (k ∷ ks) others =
-    let here : is_day_of c n k ≡ false = All-head (λ k. is_day_of c n k ≡ false) k ks others in
-    let rest = none_out c n ks (All-tail (λ k. is_day_of c n k ≡ false) k ks others) in
-    ap (λ b. cond (not b) (k ∷ filter (λ k. not (is_day_of c n k)) ks) (filter (λ k. not (is_day_of c n k)) ks)) here
-    ∙ ap (λ ys. k ∷ ys) rest
+pub none_out : {X : Type 0} (p : X → Bool) (xs : List X) → All (λ x. p x ≡ false) xs
+    → filter (λ x. not (p x)) xs ≡ xs
+none_out p [] others = refl
+none_out p (x ∷ xs) others =
+    let here : p x ≡ false = All-head (λ y. p y ≡ false) x xs others in
+    let rest = none_out p xs (All-tail (λ y. p y ≡ false) x xs others) in
+    ap (λ b. cond (not b) (x ∷ filter (λ y. not (p y)) xs) (filter (λ y. not (p y)) xs)) here
+    ∙ ap (λ ys. x ∷ ys) rest
 
 -- where nothing is at hand there is room
 pub some_there : (rows : ℕ) (days : List KnownDay) → rows ≤ most_rows → has_room rows days ≡ false → 0 < length days

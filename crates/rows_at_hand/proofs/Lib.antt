@@ -2,3 +2,5 @@ pub mod KnownLemmas
 mod LatestLemmas
 pub mod VaultLemmas
 pub mod AtHandLemmas
+pub mod CountedLemmas
+mod PlaceLemmas

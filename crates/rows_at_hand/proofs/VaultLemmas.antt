@@ -3,7 +3,7 @@ use Rattle.std.proofs.Common.{◌≡◌, ◌≢◌, ◌<◌, ℕ, zero, suc, Lis
 use Rattle.std.proofs.Common.{Bool}
 use Rattle.std.proofs.Common.{inl, inr, ◌⊎◌, true, false, ◌&&◌, ◌+◌, Result, IfOk, OnOk, refl, sym, ◌∙◌, ap, subst}
 use Rattle.std.proofs.Common.{arith}
-use Rattle.std.specs.Prelude.{◌==◌, nat_lt, nat_le, find, Option, Some, None, is_some, if◌then◌else◌}
+use Rattle.std.specs.Prelude.{◌==◌, nat_lt, find, Option, Some, None, is_some, if◌then◌else◌}
 use Rattle.std.specs.List.{list_all, flat_map}
 use Rattle.std.specs.List.Sorted.{IsNonDecreasingBy}
 use Rattle.std.specs.Option.{option_map}
@@ -14,7 +14,6 @@ use Rattle.std.proofs.lemmas.Result.{IfOk-weaker, on_ok_weaker}
 use Rattle.channel_plan.specs.declared.plan.PlanRow.{PlanRow}
 use Rattle.channel_plan.specs.Plan.{is_plan_in_order}
 use Rattle.vault_core.specs.declared.command.Put.{Put}
-use Rattle.vault_core.specs.declared.tape.Tape.{Tape}
 use Rattle.vault_core.specs.declared.clip.Clip.{Clip}
 use Rattle.vault_core.specs.declared.offer.Offer.{Offer}
 use Rattle.vault_core.specs.Questions.{listed}
@@ -47,7 +46,7 @@ use Rattle.channel_view_model.specs.Tables.{Table as RowTable, rows_of}
 use Rattle.channel_view_model.specs.Seen.{grant_of, grants_to}
 use Rattle.channel_view_model.specs.TableText.{text_at, text_seen}
 use Rattle.channel_view_model.specs.Decide.{decision, vault_decision}
-use Rattle.channel_view_model.specs.Centre.{Centre, IsChangeOf, plan_of, seen_by, own_of, changed, view_at, view_of}
+use Rattle.channel_view_model.specs.Centre.{Centre, IsChangeOf, plan_of, seen_by, changed, view_at, view_of}
 use Rattle.channel_view_model.specs.Need.{IsFetched, IsDayAnswer, IsAiringAnswer, AreSourceAnswers, IsSourceAnswer}
 use Rattle.channel_view_model.specs.Need.{clips_of, grants_of, items_asked, names_asked, of_own}
 use Rattle.channel_view_model.specs.Rules.{are_tables, KeepsRules}

@@ -1,3 +1,4 @@
 pub mod Known
 pub mod Vaults
 pub mod AtHand
+pub mod Counted

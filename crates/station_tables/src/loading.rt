@@ -1,6 +1,7 @@
-//! What one channel sees, whole or just the part that a command needs, by its row of the plan, and the vaults of all
-//! channels, each in one transaction.
+//! What one channel sees, whole or just the part that a command needs, and what is told of its days, by its row of the
+//! plan, and the vaults of all channels, each in one transaction.
 ghost use Rattle.std.specs.Prelude.{◌≡◌, ◌≤◌, false, IfOk, IfSome, OnOk};
+ghost use Rattle.std.specs.Option.{option_map};
 ghost use Rattle.sqlite.specs.State.{HasCleanDisk, Survives};
 ghost use Rattle.sqlite.specs.Held.{state};
 ghost use Rattle.channel_view_model.specs.Centre.{Centre, plan_of, view_of};
@@ -9,12 +10,14 @@ ghost use Rattle.station_tables.specs.Tables.{LeavesSets};
 ghost use Rattle.channel_view_model.specs.Need.{IsFetched};
 ghost use Rattle.channel_view_model.specs.Rules.{KeepsRules};
 ghost use Rattle.channel_view_rules.specs.ViewRules.{KeepsViewRules};
+ghost use Rattle.station_tables_reading.specs.DayLines.{counts_seen};
 ghost use Rattle.station_tables_reading.specs.Vaults.{AreVaultsRead, bytes_of};
 
 use channel_plan::PlanRow;
 use channel_view_model::{CentreRows, Need, Part, View};
+use reports::DayCounts;
 use sqlite::{Alter, Connection};
-use station_tables_reading::{read_part, read_vaults, read_view};
+use station_tables_reading::{read_day_counts, read_part, read_vaults, read_view};
 use std::alloc::Global;
 use timecode::Unavailable;
 
@@ -88,4 +91,28 @@ pub(crate) fn load_vaults<S: Alter>(
 {
     let mut tx = conn.transaction();
     read_vaults(alloc, &mut tx, plan, most)
+}
+
+/// What the days table tells of each of the channel's days, or `None` where it has no row of the plan. Rows that don't
+/// read are refused.
+pub(crate) fn load_day_counts<S: Alter>(
+    alloc: Global,
+    conn: &mut Connection<S>,
+    channel: u16,
+    plan: Option<PlanRow>,
+) -> Result<Option<Vec<DayCounts>>, Unavailable>
+    requires idle { conn.old.in_transaction ≡ false }
+    ensures idle { conn.new.in_transaction ≡ false }
+    ensures counts { HasCleanDisk (state S.Store conn.new) → (rows : Centre) → StandsFor (state S.Store conn.old) rows →
+        plan_of channel rows ≡ plan → IfOk result (λ counts.
+        option_map (λ c. c.items) counts ≡ option_map counts_seen (view_of channel rows)) }
+    ensures rules { HasCleanDisk (state S.Store conn.new) → (rows : Centre) → StandsFor (state S.Store conn.old) rows →
+        OnOk result (KeepsRules rows) }
+    ensures same { HasCleanDisk (state S.Store conn.new) → (rows : Centre) → StandsFor (state S.Store conn.old) rows →
+        StandsFor (state S.Store conn.new) rows }
+    ensures survives { Survives (state S.Store conn.old) (state S.Store conn.new) (λ _. ⊥) }
+    ensures sets { LeavesSets (state S.Store conn.old) → LeavesSets (state S.Store conn.new) }
+{
+    let mut tx = conn.transaction();
+    read_day_counts(alloc, &mut tx, channel, plan)
 }

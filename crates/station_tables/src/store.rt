@@ -15,10 +15,12 @@ use crate::applying::commit_change;
 use crate::connected::SqlRows;
 use crate::finding::Version;
 use crate::founding::{create_centre, rows_in_order};
-use crate::loading::{fetch_part, load_vaults, load_view};
+use crate::loading::{fetch_part, load_day_counts, load_vaults, load_view};
 use crate::opening::open_centre;
 use channel_plan::{Code, PlanRow, Refusal, is_plan, plan_row};
 use channel_view_model::{CentreRows, Change, Need, Part, RowStore, Table, TableFault, View};
+use reports::DayCounts;
+use rows_at_hand::CountsDays;
 use sqlite::{Alter, Connection};
 use station_tables_reading::write_table;
 use std::alloc::Global;
@@ -147,5 +149,12 @@ impl<S: Alter> RowStore for SqlRows<S> {
 
     fn commit(&mut self, channel: u16, change: &Change) -> Result<(), Unavailable> {
         commit_change(&mut self.conn, channel, change)
+    }
+}
+
+impl<S: Alter> CountsDays for SqlRows<S> {
+    fn day_counts(&mut self, channel: u16) -> Result<Option<Vec<DayCounts>>, Unavailable> {
+        let plan = plan_row(&self.plan, channel);
+        load_day_counts(self.alloc, &mut self.conn, channel, plan)
     }
 }

@@ -1,6 +1,6 @@
 -- What is told of a channel's days is what their rows tell.
 use Rattle.std.proofs.Common.{◌≡◌, ℕ, ◌+◌, ◌≤◌, Bool, true, false, not, ◌&&◌, List, [], ◌∷◌, ◌++◌, length, map, filter}
-use Rattle.std.proofs.Common.{Option, Some, None, refl, sym, ap, ap₂, ◌∙◌, subst, suc, arith}
+use Rattle.std.proofs.Common.{Option, Some, None, refl, sym, ap, ap₂, ◌∙◌, subst, arith}
 use Rattle.std.specs.Prelude.{◌==◌, ◌||◌, nat_lt, nat_le, find, if◌then◌else◌}
 use Rattle.std.specs.List.{AllByRecursion, list_all, flat_map}
 use Rattle.std.proofs.lemmas.Bool.Decides.{nat_tests}
@@ -25,7 +25,7 @@ use Rattle.station_tables_records.specs.declared.day_rows.ItemRow.{ItemRow}
 use Rattle.station_tables_records.specs.MadeDays.{DaySet, Rise, day_made, is_day_in, is_item_in, is_of_day, items_at}
 use Rattle.station_tables_records.specs.MadeDays.{position_cmp}
 use Rattle.station_tables_records.specs.MadeAirings.{AiredSet, HaveNoHoles, airing_of_rows, airings_made, batch_cmp}
-use Rattle.station_tables_records.specs.MadeAirings.{batches_at, is_batch_of, rows_in_batch}
+use Rattle.station_tables_records.specs.MadeAirings.{is_batch_of, rows_in_batch}
 use Rattle.station_tables_records.proofs.MadeLemmas.{position_total}
 use Rattle.station_tables_statements.proofs.AiringSeenLemmas.{airing_seen_is}
 use Rattle.station_tables_reading.specs.DayLines.{counts_at, is_day_below}
@@ -198,38 +198,28 @@ module _ (channels : List PlanRow) (p : PlanRow) (c : ℕ) (own : p.ch ≡ c)
         (batches_are r.1.number ∙ ap (λ b. length (filter (is_batch_of b r.1.number) aired.batches)) (sym mine)) i;
   }
 
-  -- the lines of the channel's days
-  pub lines_seen : (rs : List (ℕ × DayRow))
-      → flat_map (λ r. counts_line (counts_at days aired r)) (filter (λ r. r.0 == c) rs)
-      ≡ flat_map (day_line seen) (rows_of c (map (day_made channels days.items) rs))
-  lines_seen [] = refl
-  lines_seen (r ∷ rs) = by (r.0 == c) refl (lines_seen rs)
+  -- what is told of the channel's days
+  pub counts_told : (rs : List (ℕ × DayRow))
+      → map (counts_at days aired) (filter (λ r. r.0 == c) rs)
+      ≡ map (λ d. day_counts (batches_of seen d.number) d) (rows_of c (map (day_made channels days.items) rs))
+  counts_told [] = refl
+  counts_told (r ∷ rs) = by (r.0 == c) refl (counts_told rs)
     where
       by : (b : Bool) → (r.0 == c) ≡ b
-          → flat_map (λ r. counts_line (counts_at days aired r)) (filter (λ r. r.0 == c) rs)
-          ≡ flat_map (day_line seen) (rows_of c (map (day_made channels days.items) rs))
-          → flat_map (λ r. counts_line (counts_at days aired r))
-          (if b then r ∷ filter (λ r. r.0 == c) rs else filter (λ r. r.0 == c) rs)
-          ≡ flat_map (day_line seen)
+          → map (counts_at days aired) (filter (λ r. r.0 == c) rs)
+          ≡ map (λ d. day_counts (batches_of seen d.number) d) (rows_of c (map (day_made channels days.items) rs))
+          → map (counts_at days aired) (if b then r ∷ filter (λ r. r.0 == c) rs else filter (λ r. r.0 == c) rs)
+          ≡ map (λ d. day_counts (batches_of seen d.number) d)
           (map (λ d. d.1)
           (if b then day_made channels days.items r
           ∷ filter (λ d. d.0 == c) (map (day_made channels days.items) rs)
           else filter (λ d. d.0 == c) (map (day_made channels days.items) rs)))
-      by true mine rest = ap₂ ◌++◌ (ap counts_line (sym (told r (grind (arith, nat_tests, mine))))) rest
+      by true mine rest = ap₂ ◌∷◌ (sym (told r (grind (arith, nat_tests, mine)))) rest
       by false other rest = rest
 
--- they are as many as their rows
-pub count_seen : (channels : List PlanRow) (c : ℕ) (items : List (ℕ × ItemRow)) (rs : List (ℕ × DayRow))
-    → length (filter (λ r. r.0 == c) rs) ≡ length (rows_of c (map (day_made channels items) rs))
-count_seen channels c items [] = refl
-count_seen channels c items (r ∷ rs) = by (r.0 == c) (count_seen channels c items rs)
-  where
-    by : (b : Bool) → length (filter (λ r. r.0 == c) rs) ≡ length (rows_of c (map (day_made channels items) rs))
-        → length (if b then r ∷ filter (λ r. r.0 == c) rs else filter (λ r. r.0 == c) rs)
-        ≡ length
-        (map (λ (d : ℕ × Day). d.1)
-        (if b then day_made channels items r
-        ∷ filter (λ d. d.0 == c) (map (day_made channels items) rs)
-        else filter (λ d. d.0 == c) (map (day_made channels items) rs)))
-    by true rest = ap suc rest
-    by false rest = rest
+-- so their table is
+pub lines_told : (aired : List DayAsRun) (days : List Day)
+    → flat_map counts_line (map (λ d. day_counts (batches_of aired d.number) d) days)
+    ≡ flat_map (day_line aired) days
+lines_told aired [] = refl
+lines_told aired (d ∷ ds) = ap (λ l. day_line aired d ++ l) (lines_told aired ds)

@@ -1,18 +1,12 @@
 -- The pages of the days table, of a centre that keeps the rules.
-use Rattle.std.proofs.Common.{◌≡◌, ℕ, ◌+◌, ◌*◌, ◌<◌, ◌≤◌, List, ◌++◌, length, filter, Option, Some, Ok, Result, refl}
-use Rattle.std.proofs.Common.{sym, ap, ◌∙◌, subst, arith}
+use Rattle.std.proofs.Common.{◌≡◌, ℕ, ◌+◌, ◌*◌, ◌≤◌, List, ◌++◌, map, filter, Some, Ok, Result, sym, ap, ap₂, ◌∙◌, arith}
 use Rattle.std.specs.Prelude.{◌==◌}
-use Rattle.std.specs.List.{flat_map}
-use Rattle.std.specs.Io.KnownBytes.{Appends}
-use Rattle.std.proofs.lemmas.Grind.{flat_map-append}
-use Rattle.std.proofs.lemmas.List.{append_assoc, length-append}
+use Rattle.std.proofs.lemmas.List.{map-append}
 use Rattle.sqlite_trees.specs.declared.store.Store.{Ghosts}
 use Rattle.sqlite.specs.declared.transaction.Transaction.{Transaction}
 use Rattle.sqlite.specs.Effect.{Database}
 use Rattle.channel_plan.specs.declared.plan.PlanRow.{PlanRow}
-use Rattle.reports.specs.Output.{AppendsPart}
-use Rattle.reports.specs.Days.{day_line}
-use Rattle.reports.proofs.PartLemmas.{part_behind, whole_behind}
+use Rattle.reports.specs.declared.days.DayCounts.{DayCounts}
 use Rattle.channel_view_model.specs.Centre.{plan_of, seen_by, view_at}
 use Rattle.channel_view_model.specs.Seen.{sources_seen}
 use Rattle.channel_view_model.specs.Tables.{rows_of}
@@ -25,8 +19,8 @@ use Rattle.station_tables_records.proofs.AiredLemmas.{batches_rise}
 use Rattle.station_tables_statements.specs.Rows.{HoldsSet, rows_of_tables}
 use Rattle.station_tables_records.specs.Inside.{inside, Looks}
 use Rattle.station_tables_statements.specs.Calls.{WhileCleanCentre}
-use Rattle.station_tables_reading.specs.DayLines.{days_below, is_day_below, line_in}
-use Rattle.station_tables_reading.proofs.DayLineLemmas.{all_below, count_seen, lines_seen, next_days}
+use Rattle.station_tables_reading.specs.DayLines.{counts_in, counts_seen, days_below}
+use Rattle.station_tables_reading.proofs.DayLineLemmas.{all_below, counts_told, next_days}
 use Rattle.station_tables_reading.proofs.ThenLemmas.{rows_then}
 
 -- of a database that holds a set with this row of the plan
@@ -49,9 +43,6 @@ module _ (db : Database) (ch : ℕ) (plan : PlanRow) (holds : HoldsSet (rows_of_
   abbrev page : ℕ → ℕ → List (ℕ × DayRow)
   page first last = filter (is_day_in ch first last) (day_rows_in db.trees).days
 
-  abbrev text : List (ℕ × DayRow) → List ℕ
-  text days = flat_map (line_in db.trees) days
-
   page_days : (first last : ℕ) → first ≤ last + 1
       → days_below ch (last + 1) db.trees ≡ days_below ch first db.trees ++ page first last
   page_days first last le =
@@ -67,44 +58,16 @@ module _ (db : Database) (ch : ℕ) (plan : PlanRow) (holds : HoldsSet (rows_of_
       let count : (p + 1) * 1000 ≡ p * 1000 + 999 + 1 = omega arith in
       ap (λ n. days_below ch n db.trees) count ∙ page_days (p * 1000) (p * 1000 + 999) (omega arith)
 
-  pub next_count : (p so_far more : ℕ) → so_far ≡ length (days_below ch (p * 1000) db.trees)
-      → more ≡ length (page (p * 1000) (p * 1000 + 999))
-      → so_far + more ≡ length (days_below ch ((p + 1) * 1000) db.trees)
-  next_count p so_far more before now =
-      ap (λ n. n + more) before ∙ ap (λ n. length (days_below ch (p * 1000) db.trees) + n) now
+  -- and what is told of their days
+  pub next_counts : (p : ℕ) (so_far more all : List DayCounts)
+      → so_far ≡ map (counts_in db.trees) (days_below ch (p * 1000) db.trees)
+      → more ≡ map (counts_in db.trees) (page (p * 1000) (p * 1000 + 999)) → all ≡ so_far ++ more
+      → all ≡ map (counts_in db.trees) (days_below ch ((p + 1) * 1000) db.trees)
+  next_counts p so_far more all before now joined =
+      joined ∙ ap₂ ◌++◌ before now
       ∙ sym
-      (ap length (next_page p) ∙ length-append (days_below ch (p * 1000) db.trees) (page (p * 1000) (p * 1000 + 999)))
-
-  next_text : (p : ℕ)
-      → text (days_below ch ((p + 1) * 1000) db.trees)
-      ≡ text (days_below ch (p * 1000) db.trees) ++ text (page (p * 1000) (p * 1000 + 999))
-  next_text p =
-      ap text (next_page p)
-      ∙ flat_map-append (line_in db.trees) (days_below ch (p * 1000) db.trees) (page (p * 1000) (p * 1000 + 999))
-
-  pub next_written : (p : ℕ) (start mid end : Option (List ℕ))
-      → Appends start mid (text (days_below ch (p * 1000) db.trees))
-      → Appends mid end (text (page (p * 1000) (p * 1000 + 999)))
-      → Appends start end (text (days_below ch ((p + 1) * 1000) db.trees))
-  next_written p start mid end front now =
-      subst (Appends start end) (sym (next_text p))
-      (whole_behind start mid end (text (days_below ch (p * 1000) db.trees)) (text (page (p * 1000) (p * 1000 + 999)))
-      front now)
-
-  -- the others behind it
-  pub page_begun : (p : ℕ) → p < 100 → (start mid end : Option (List ℕ))
-      → Appends start mid (text (days_below ch (p * 1000) db.trees))
-      → AppendsPart mid end (text (page (p * 1000) (p * 1000 + 999)))
-      → AppendsPart start end (text (days_below ch 100000 db.trees))
-  page_begun p lt start mid end front part =
-      let before = text (days_below ch (p * 1000) db.trees) in
-      let now = text (page (p * 1000) (p * 1000 + 999)) in
-      let others = page ((p + 1) * 1000) 99999 in
-      let all : text (days_below ch 100000 db.trees) ≡ before ++ (now ++ text others) =
-      ap text (page_days ((p + 1) * 1000) 99999 (omega arith))
-      ∙ flat_map-append (line_in db.trees) (days_below ch ((p + 1) * 1000) db.trees) others
-      ∙ ap (λ l. l ++ text others) (next_text p) ∙ append_assoc before now (text others) in
-      subst (AppendsPart start end) (sym all) (part_behind start mid end before now (text others) front part)
+      (ap (map (counts_in db.trees)) (next_page p)
+      ∙ map-append (counts_in db.trees) (days_below ch (p * 1000) db.trees) (page (p * 1000) (p * 1000 + 999)))
 
   -- all pages are the channel's days
   own : plan.ch ≡ ch
@@ -115,15 +78,9 @@ module _ (db : Database) (ch : ℕ) (plan : PlanRow) (holds : HoldsSet (rows_of_
       all_below ch (rows_of_tables db.trees).channels (day_rows_in db.trees).items (day_rows_in db.trees).days
       holds.rules.days.each
 
-  pub days_counted : length (days_below ch 100000 db.trees) ≡ length (view_at ch (rows_of_tables db.trees) plan).days
-  days_counted =
-      ap length below_all
-      ∙ count_seen (rows_of_tables db.trees).channels ch (day_rows_in db.trees).items (day_rows_in db.trees).days
-
-  pub days_told : text (days_below ch 100000 db.trees)
-      ≡ flat_map (day_line (view_at ch (rows_of_tables db.trees) plan).aired)
-      (view_at ch (rows_of_tables db.trees) plan).days
+  pub days_told : map (counts_in db.trees) (days_below ch 100000 db.trees)
+      ≡ counts_seen (view_at ch (rows_of_tables db.trees) plan)
   days_told =
-      ap text below_all
-      ∙ lines_seen (rows_of_tables db.trees).channels plan ch own (sym there) (day_rows_in db.trees)
+      ap (map (counts_in db.trees)) below_all
+      ∙ counts_told (rows_of_tables db.trees).channels plan ch own (sym there) (day_rows_in db.trees)
       (aired_rows_in db.trees) (batches_rise db.trees holds.centre.batches) holds.owned.1 (day_rows_in db.trees).days

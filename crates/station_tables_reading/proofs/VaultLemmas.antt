@@ -1,15 +1,13 @@
 -- A table that is read channel by channel, and the bytes that it takes.
-use Rattle.std.proofs.Common.{◌≡◌, ◌<◌, ◌≤◌, ℕ, ◌+◌, ◌*◌, List, [], ◌∷◌, ◌++◌, length, take, drop, get_or, Bool, true}
-use Rattle.std.proofs.Common.{false, ◌&&◌, refl, sym, ◌∙◌, ap, subst, arith, take-append-drop, length-append, filter, add-mul}
+use Rattle.std.proofs.Common.{◌≡◌, ◌<◌, ◌≤◌, ℕ, ◌+◌, ◌*◌, List, ◌++◌, length, take, drop, true}
+use Rattle.std.proofs.Common.{sym, ◌∙◌, ap, subst, arith, take-append-drop, length-append, filter, add-mul}
 use Rattle.std.proofs.Common.{mul-le-mul_right}
-use Rattle.std.specs.Prelude.{◌==◌, ◌||◌, nat_lt, nat_le, Option, Result, Ok}
-use Rattle.std.specs.List.{flat_map, list_all}
-use Rattle.std.proofs.lemmas.Bool.Decides.{nat_tests}
+use Rattle.std.specs.Prelude.{Option, Result, Ok}
+use Rattle.std.specs.List.{flat_map}
 use Rattle.std.proofs.lemmas.Grind.{flat_map-append}
-use Rattle.std.proofs.lemmas.List.{append-nil, take_more, take_all}
 use Rattle.channel_plan.specs.declared.plan.PlanRow.{PlanRow}
 use Rattle.channel_plan.specs.Plan.{is_plan_in_order}
-use Rattle.channel_view_model.specs.Tables.{Table, is_in_order}
+use Rattle.channel_view_model.specs.Tables.{Table}
 use Rattle.channel_view_model.specs.Rules.{is_table_of, are_tables, KeepsRules}
 use Rattle.channel_view_rules.proofs.PlannedLemmas.{rows_planned, planned_all}
 use Rattle.vault_core.specs.declared.tape.Tape.{Tape}

@@ -2,7 +2,7 @@
 //! A page of the rows is in memory at a time.
 //!
 //! The clips that other channels lend to one are as many as those lend it, and have no number of their own that could
-//! be a page's. So they have no pages, and are read at once. The days have numbers with holes, and pages of their own.
+//! be a page's. So they have no pages, and are read at once. Of the days what is told of each is read at once.
 ghost use Rattle.std.specs.Prelude.{◌≡◌, IfOk};
 ghost use Rattle.channel_plan.specs.declared.plan.PlanRow.{PlanRow as Plan};
 ghost use Rattle.station_tables_records.specs.Inside.{Looks};

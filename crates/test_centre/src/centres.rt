@@ -13,7 +13,7 @@ use channel_view::MemRows;
 use channel_view_model::RowStore;
 use http_office::answers::Answer;
 use http_office::messages::answer;
-use rows_at_hand::{MOST_DAYS, RecentDays, VaultsAtHand};
+use rows_at_hand::{CountedDays, MOST_DAYS, RecentDays, VaultsAtHand};
 use sqlite::MemStore;
 use station_tables::{SqlRows, centre_in_memory};
 use std::alloc::Global;
@@ -183,13 +183,13 @@ fn is_answered_over_tables(rt: &impl Abort, alloc: Global, centre: u16) -> Resul
 pub(crate) fn with_vaults(
     alloc: Global,
     tables: SqlRows<MemStore>,
-) -> VaultsAtHand<SqlRows<MemStore>> {
+) -> VaultsAtHand<CountedDays<SqlRows<MemStore>>> {
     let mut tables = tables;
     let vaults = match tables.vaults(usize::MAX) {
         Ok(Some(rows)) => MemRows::from_rows(alloc, rows),
         Ok(None) | Err(_) => None,
     };
-    VaultsAtHand::over(alloc, tables, vaults)
+    VaultsAtHand::over(alloc, CountedDays::over(alloc, tables), vaults)
 }
 
 // The same over tables, with their vaults at hand once all have asked.
@@ -204,7 +204,11 @@ fn is_answered_at_hand(rt: &impl Abort, alloc: Global, centre: u16) -> Result<()
         Ok(()) => channel_1_is_answered(rt, alloc, &mut store),
         Err(fail) => Err(fail),
     };
-    let _ = store.into_store().into_store().into_connection();
+    let _ = store
+        .into_store()
+        .into_store()
+        .into_store()
+        .into_connection();
     answered
 }
 
@@ -274,11 +278,8 @@ fn is_answered_over_known_days(
         Ok(()) => channel_1_is_answered(rt, alloc, &mut store),
         Err(fail) => Err(fail),
     };
-    let _ = store
-        .into_store()
-        .into_store()
-        .into_store()
-        .into_connection();
+    let tables = store.into_store().into_store().into_store().into_store();
+    let _ = tables.into_connection();
     answered
 }
 

@@ -1,10 +1,11 @@
-//! What a channel sees, loaded from each store: `MemRows`, `SqlRows`, and `RecentDays` and `VaultsAtHand` over this.
+//! What a channel sees, loaded from each store: `MemRows`, `SqlRows`, and `RecentDays`, `CountedDays` and `VaultsAtHand`
+//! over this.
 use crate::asked::FIRST;
 use crate::centres::{are_answered, with_vaults};
 use crate::others::plan_row;
 use channel_view::MemRows;
 use channel_view_model::{RowStore, View};
-use rows_at_hand::RecentDays;
+use rows_at_hand::{CountedDays, RecentDays};
 use station_tables::{SqlRows, centre_in_memory};
 use std::alloc::Global;
 use std::process::Abort;
@@ -70,8 +71,13 @@ fn a_view_is_loaded_from_each_store(rt: HostRuntime) -> Result<(), Fail> {
     let loaded = is_loaded(&rt, alloc, &mut recent);
     let _ = recent.into_store().into_connection();
     loaded?;
+    let tables = centre_in_memory(alloc, &plan).map_err(Fail::from)?;
+    let mut counted = CountedDays::over(alloc, tables);
+    let loaded = is_loaded(&rt, alloc, &mut counted);
+    let _ = counted.into_store().into_connection();
+    loaded?;
     let mut at_hand = with_vaults(alloc, centre_in_memory(alloc, &plan).map_err(Fail::from)?);
     let loaded = is_loaded(&rt, alloc, &mut at_hand);
-    let _ = at_hand.into_store().into_connection();
+    let _ = at_hand.into_store().into_store().into_connection();
     loaded
 }

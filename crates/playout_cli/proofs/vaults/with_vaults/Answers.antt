@@ -1,11 +1,13 @@
 -- `with_vaults`: the tables with the vaults of all channels at hand.
 use Rattle.std.proofs.Common.{◌≡◌, ◌≤◌, ℕ, [], ◌∙◌, Option, Some, None, IfSome, sym, ap, subst}
+use Rattle.std.proofs.lemmas.List.Elements.{All-nil}
 use Rattle.sqlite.specs.State.{HasCleanDisk}
 use Rattle.sqlite.specs.Held.{state}
 use Rattle.channel_view_model.specs.Centre.{Centre}
 use Rattle.channel_view_model.specs.Rules.{KeepsRules}
 use Rattle.rows_at_hand.specs.declared.vaults.Vaults.{Vaults}
 use Rattle.rows_at_hand.specs.AtHand.{AreVaultsOf}
+use Rattle.rows_at_hand.specs.Counted.{AreCounted, IsCounted}
 use Rattle.rows_at_hand.specs.Vaults.{vaults_in}
 use Rattle.station_tables_reading.specs.Vaults.{AreVaultsRead, bytes_of}
 use Rattle.station_tables.specs.Store.{StandsWithPlan}
@@ -42,11 +44,16 @@ none_at_hand P (Some vaults) (set, never, are) = absurd (cc)
 
 pub returns-in-Ok-Some-clause-stands : goal.returns-in-Ok-Some-clause-stands
 returns-in-Ok-Some-clause-stands g c clean rows stands =
-    let now = subst (λ t. HasCleanDisk (state g.S.Store t.conn)) c.over.ensures.store clean in
+    let same = ap (λ d. d.store) c.over.ensures.store ∙ c.over-counted.ensures.store in
+    let none = ap (λ d. d.channels.items) c.over.ensures.store ∙ c.over-counted.ensures.none in
+    let now = subst (λ t. HasCleanDisk (state g.S.Store t.conn)) same clean in
     let read =
     subst (AreVaultsRead rows most_vault_bytes) c.in-Ok-Some.field-0-is (c.in-Ok-Some.ensures.vaults now rows stands)
     in (
-      subst (λ t. StandsWithPlan g.S.Store t rows) (sym c.over.ensures.store) (c.vaults.ensures.same now rows stands),
+      (
+        subst (λ t. StandsWithPlan g.S.Store t rows) (sym same) (c.vaults.ensures.same now rows stands),
+        subst (AreCounted rows) (sym none) (All-nil (IsCounted rows)),
+      ),
       at_hand rows c.in-Ok-Some.rows c.from_rows.result c.over.result.vaults
           (c.in-Ok-Some.ensures.rules now rows stands) read c.from_rows.ensures.rows c.over.ensures.vaults,
     )
@@ -60,21 +67,30 @@ returns-in-Ok-Some-clause-few g c =
 
 pub returns-in-Ok-Some-clause-stop : goal.returns-in-Ok-Some-clause-stop
 returns-in-Ok-Some-clause-stop g c clean left may =
-    c.vaults.ensures.stop (subst (λ t. HasCleanDisk (state g.S.Store t.conn)) c.over.ensures.store clean) left
-    (subst (λ t. MayLeave (state g.S.Store t.conn) left) c.over.ensures.store may)
+    let same = ap (λ d. d.store) c.over.ensures.store ∙ c.over-counted.ensures.store in
+    c.vaults.ensures.stop (subst (λ t. HasCleanDisk (state g.S.Store t.conn)) same clean) left
+    (subst (λ t. MayLeave (state g.S.Store t.conn) left) same may)
 
 pub returns-in-Ok-None-clause-stands : goal.returns-in-Ok-None-clause-stands
-returns-in-Ok-None-clause-stands g c clean rows stands = (
-  subst (λ t. StandsWithPlan g.S.Store t rows) (sym c.over-in-Ok-None.ensures.store)
-      (c.vaults.ensures.same
-      (subst (λ t. HasCleanDisk (state g.S.Store t.conn)) c.over-in-Ok-None.ensures.store clean) rows stands),
-  none_at_hand _ c.over-in-Ok-None.result.vaults c.over-in-Ok-None.ensures.vaults,
-)
+returns-in-Ok-None-clause-stands g c clean rows stands =
+    let same =
+    ap (λ d. d.store) c.over-in-Ok-None.ensures.store ∙ c.over-counted-in-Ok-None.ensures.store in
+    let none =
+    ap (λ d. d.channels.items) c.over-in-Ok-None.ensures.store ∙ c.over-counted-in-Ok-None.ensures.none in (
+      (
+        subst (λ t. StandsWithPlan g.S.Store t rows) (sym same)
+            (c.vaults.ensures.same (subst (λ t. HasCleanDisk (state g.S.Store t.conn)) same clean) rows stands),
+        subst (AreCounted rows) (sym none) (All-nil (IsCounted rows)),
+      ),
+      none_at_hand _ c.over-in-Ok-None.result.vaults c.over-in-Ok-None.ensures.vaults,
+    )
 
 pub returns-in-Ok-None-clause-few : goal.returns-in-Ok-None-clause-few
 returns-in-Ok-None-clause-few g c = none_at_hand _ c.over-in-Ok-None.result.vaults c.over-in-Ok-None.ensures.vaults
 
 pub returns-in-Ok-None-clause-stop : goal.returns-in-Ok-None-clause-stop
 returns-in-Ok-None-clause-stop g c clean left may =
-    c.vaults.ensures.stop (subst (λ t. HasCleanDisk (state g.S.Store t.conn)) c.over-in-Ok-None.ensures.store clean)
-    left (subst (λ t. MayLeave (state g.S.Store t.conn) left) c.over-in-Ok-None.ensures.store may)
+    let same =
+    ap (λ d. d.store) c.over-in-Ok-None.ensures.store ∙ c.over-counted-in-Ok-None.ensures.store in
+    c.vaults.ensures.stop (subst (λ t. HasCleanDisk (state g.S.Store t.conn)) same clean) left
+    (subst (λ t. MayLeave (state g.S.Store t.conn) left) same may)

@@ -9,7 +9,7 @@ use Rattle.rows_at_hand.proofs.known.take_out.Goals as goal
 pub returns-in_err-place-clause-left : goal.returns-in_err-place-clause-left
 returns-in_err-place-clause-left c =
     sym
-    (none_out c.args.channel c.args.number c.args.days.now.items
+    (none_out (is_day_of c.args.channel c.args.number) c.args.days.now.items
     (subst (All (λ k. is_day_of c.args.channel c.args.number k ≡ false)) c.deref.ensures.value
     c.in_err-place.ensures.none))
 

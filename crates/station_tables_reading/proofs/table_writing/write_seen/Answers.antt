@@ -1,7 +1,6 @@
 -- `write_seen`: writes it where the channel is in the plan, and says whether it is.
-use Rattle.std.proofs.Common.{rules as common, ℕ, List, true, Option, is_some, sym, ap, ◌∙◌, subst, arith}
+use Rattle.std.proofs.Common.{rules as common, ℕ, List, true, Option, is_some, sym, ap, ◌∙◌, subst}
 use Rattle.std.specs.Io.KnownBytes.{Appends}
-use Rattle.sqlite.specs.State.{HasCleanDisk}
 use Rattle.reports.specs.Output.{AppendsPart}
 use Rattle.reports.proofs.PartLemmas.{nothing_yet}
 use Rattle.reports.proofs.LineLemmas.{on_err}

@@ -2,7 +2,6 @@
 use Rattle.std.proofs.Common.{rules as common, ◌≡◌, ◌+◌, ◌*◌, ◌∙◌, length, sym, subst}
 use Rattle.std.specs.Prelude.{IfSome}
 use Rattle.std.specs.Option.{option_map}
-use Rattle.channel_view_model.specs.Rules.{KeepsRules}
 use Rattle.station_tables_records.specs.Inside.{inside}
 use Rattle.station_tables_records.proofs.InsideLemmas.{reads_on}
 use Rattle.station_tables_statements.specs.Calls.{set_in}

@@ -1,5 +1,5 @@
 -- `Vaults::commit`: a change of own rows, in the vault of its channel.
-use Rattle.std.proofs.Common.{◌≡◌, ◌<◌, length, arith}
+use Rattle.std.proofs.Common.{arith}
 use Rattle.rows_at_hand.proofs.VaultLemmas.{committed}
 use Rattle.rows_at_hand.proofs.vaults.Vaults.commit.Goals as goal
 
