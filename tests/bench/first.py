@@ -1,9 +1,10 @@
 """How long a fresh clone waits, for `.ci/bench first`: for the first answer without a proof, for the first one that is
-proved, for the rest of the program, and with the word --gate for `.ci/run`; of each the time that the machine's processors
+proved, and for the rest of the program; for `.ci/bench gate`: for `.ci/run`. Of each the time that the machine's processors
 were at work, and the most memory that it had in use meanwhile, less what it had before.
 
 Each commit has a clone of its own. What checks of other clones have kept on this machine is put aside meanwhile, since `rt`
-would begin with it. The figures of two commits may be compared where nothing else was at work."""
+would begin with it, and the toolchain's files are read first, as far as they fit into memory: where they weren't there, a
+look took 118 seconds that else took 70. The figures of two commits may be compared where nothing else was at work."""
 
 import contextlib
 import os
@@ -74,11 +75,24 @@ def took(words: Sequence[str], folder: str, wanted: bytes | None = None) -> Took
     return Took(time.monotonic() - begun, at_work() - before, peak.most)
 
 
+def kit() -> str:
+    """The toolchain's folder."""
+    return os.path.dirname(os.path.dirname(os.path.realpath(shutil.which("rt") or sys.exit("bench: there is no rt here"))))
+
+
+def read_kit() -> None:
+    """Has the toolchain's files in memory."""
+    for folder, _folders, names in os.walk(kit()):
+        for name in names:
+            with contextlib.suppress(OSError), open(f"{folder}/{name}", "rb") as file:
+                while file.read(1 << 20):
+                    pass
+
+
 @contextlib.contextmanager
 def nothing_kept() -> Iterator[None]:
     """No check begins with what another one has kept on this machine."""
-    kit = os.path.dirname(os.path.dirname(os.path.realpath(shutil.which("rt") or sys.exit("bench: there is no rt here"))))
-    kept = f"{os.path.dirname(kit)}/rattle-kept"
+    kept = f"{os.path.dirname(kit())}/rattle-kept"
     if os.path.isdir(kept):
         os.rename(kept, f"{kept}.aside")
     try:
@@ -89,25 +103,35 @@ def nothing_kept() -> Iterator[None]:
             os.rename(f"{kept}.aside", kept)
 
 
-def of_commit(top: str, commit: str, gate: bool) -> dict[str, Took]:
-    """What a fresh clone of this commit took."""
-    found = {}
+@contextlib.contextmanager
+def clone_of(top: str, commit: str) -> Iterator[str]:
+    """A fresh clone of this commit."""
     with nothing_kept(), tempfile.TemporaryDirectory(dir=os.path.dirname(top)) as room:
-        subprocess.run(["git", "clone", "--quiet", top, f"{room}/it"], check=True)
-        subprocess.run(["git", "checkout", "--quiet", commit], cwd=f"{room}/it", check=True)
-        found["unproved"] = took(["./preview", *OVER_MEMORY], f"{room}/it", ANSWER)
-        found["first answer"] = took(["./playout", *OVER_MEMORY], f"{room}/it", ANSWER)
-        # The others go on behind it, and are waited for. What LLVM does then isn't.
-        found["the rest"] = took([".ci/prove"], f"{room}/it")
-        subprocess.run(["pkill", "-TERM", "-f", f"{room}/it/.ci/prove"], check=False)
-        if gate:
-            found["the gate"] = took([".ci/run"], f"{room}/it")
-    return found
+        clone = f"{room}/it"
+        subprocess.run(["git", "clone", "--quiet", top, clone], check=True)
+        subprocess.run(["git", "checkout", "--quiet", commit], cwd=clone, check=True)
+        read_kit()
+        yield clone
 
 
-def of_first(top: str, words: Sequence[str]) -> None:
-    """Prints a line for each commit and what was waited for."""
+def first_of(clone: str) -> Iterator[tuple[str, Took]]:
+    """What is waited for in it until the whole program is proved."""
+    yield "unproved", took(["./preview", *OVER_MEMORY], clone, ANSWER)
+    yield "first answer", took(["./playout", *OVER_MEMORY], clone, ANSWER)
+    # The others go on behind it, and are waited for. What LLVM does then isn't.
+    yield "the rest", took([".ci/prove"], clone)
+    subprocess.run(["pkill", "-TERM", "-f", f"{clone}/.ci/prove"], check=False)
+
+
+def gate_of(clone: str) -> Iterator[tuple[str, Took]]:
+    """What is waited for in it until CI has judged it."""
+    yield "the gate", took([".ci/run"], clone)
+
+
+def print_figures(top: str, kind: str, commits: Sequence[str]) -> None:
+    """Prints a line for each commit and what was waited for, in turn."""
     print("| Commit | Waited for | wall, s | processor, s | memory, MB |\n|---|---|---|---|---|")
-    for commit in [it for it in words if it != "--gate"] or ["HEAD"]:
-        for name, it in of_commit(top, commit, "--gate" in words).items():
-            print(f"| {commit} | {name} | {it.wall:.0f} | {it.processor:.0f} | {it.memory:.0f} |", flush=True)
+    for commit in commits or ["HEAD"]:
+        with clone_of(top, commit) as clone:
+            for name, it in {"first": first_of, "gate": gate_of}[kind](clone):
+                print(f"| {commit} | {name} | {it.wall:.0f} | {it.processor:.0f} | {it.memory:.0f} |", flush=True)
