@@ -3,7 +3,7 @@
 
 Its last line is 'prove: N passed, M failed'. It takes a minute or two.
 """
-import os, shutil, signal, subprocess, sys, tempfile, time
+import importlib.machinery, importlib.util, os, shutil, signal, subprocess, sys, tempfile, time
 
 HERE = os.path.dirname(os.path.dirname(os.path.abspath(__file__)))
 TEXTS = {
@@ -43,7 +43,29 @@ def check(what, holds):
         print(f'prove: failed: {what}', flush=True)
 
 
+class Far:
+    """A crate from which it is so far to the end."""
+
+    def __init__(self, left):
+        self.left = left
+
+
+def check_shares():
+    """One that begins has several processes, also where one from which it is farther runs."""
+    sys.dont_write_bytecode = True
+    loader = importlib.machinery.SourceFileLoader('prove', f'{HERE}/prove')
+    prove = importlib.util.module_from_spec(importlib.util.spec_from_loader('prove', loader))
+    loader.exec_module(prove)
+    runs, begins, near = Far(51), Far(45), Far(16)
+    check('one that begins beside another', prove.processes_of([begins, near], [runs, begins, near], [runs, begins, near], 4)
+          == {begins: 3})
+    check('one alone', prove.processes_of([runs], [runs], [runs], 4) == {runs: 4})
+    check('two that begin', prove.processes_of([runs, begins], [runs, begins], [runs, begins], 4) == {runs: 2, begins: 2})
+    check('none that is not urgent', prove.processes_of([near], [runs, near], [runs, near], 4) == {})
+
+
 def main():
+    check_shares()
     with tempfile.TemporaryDirectory() as top:
         def prove(*words):
             ran = subprocess.run([f'{top}/.ci/prove', *words], stdin=subprocess.DEVNULL, stdout=subprocess.DEVNULL,
