@@ -1,6 +1,6 @@
 """How long a fresh clone waits, for `.ci/bench first`: for the first answer without a proof, for the first one that is
-proved, and for the rest of the program; for `.ci/bench gate`: for `.ci/run`. Of each the time that the machine's processors
-were at work, and the most memory that it had in use meanwhile, less what it had before.
+proved, and for the rest of the program; for `.ci/bench gate`: for `.ci/run`, whose own lines come on standard error. Of each
+the time that the machine's processors were at work, and the most memory that it had in use meanwhile, less what it had before.
 
 Each commit has a clone of its own. What checks of other clones have kept on this machine is put aside meanwhile, since `rt`
 would begin with it, and the toolchain's files are read first, as far as they fit into memory: where they weren't there, a
@@ -64,14 +64,15 @@ class Peak:
         self.thread.join()
 
 
-def took(words: Sequence[str], folder: str, wanted: bytes | None = None) -> Took:
-    """What a command took; with an answer that is wanted, it gets the message."""
+def took(words: Sequence[str], folder: str, wanted: bytes | None = None, is_shown: bool = False) -> Took:
+    """What a command took; with an answer that is wanted, it gets the message. What is shown comes on standard error."""
     begun, before = time.monotonic(), at_work()
     with Peak() as peak:
         given = b"" if wanted is None else MESSAGE
-        ran = subprocess.run(words, cwd=folder, input=given, stdout=subprocess.PIPE, check=False)
+        output = sys.stderr if is_shown else subprocess.PIPE
+        ran = subprocess.run(words, cwd=folder, input=given, stdout=output, check=False)
     if ran.returncode or wanted not in (None, ran.stdout):
-        raise SystemExit(f"bench: {' '.join(words)}: exit status {ran.returncode}, {ran.stdout[-200:]!r}")
+        raise SystemExit(f"bench: {' '.join(words)}: exit status {ran.returncode}, {(ran.stdout or b'')[-200:]!r}")
     return Took(time.monotonic() - begun, at_work() - before, peak.most)
 
 
@@ -125,7 +126,7 @@ def first_of(clone: str) -> Iterator[tuple[str, Took]]:
 
 def gate_of(clone: str) -> Iterator[tuple[str, Took]]:
     """What is waited for in it until CI has judged it."""
-    yield "the gate", took([".ci/run"], clone)
+    yield "the gate", took([".ci/run"], clone, is_shown=True)
 
 
 def print_figures(top: str, kind: str, commits: Sequence[str]) -> None:
