@@ -132,9 +132,8 @@ fn take_item<S: Sources>(
     requires kind { is_kind new.now.kind ≡ true }
     ensures { IfOk result (λ d. d ≡ item_added day.now (item_for day.now plan.now (S.seen sources.now) new.now)) }
 {
-    let mut after = day.copied(alloc)?;
-    match after.add_item(plan, sources, new) {
-        Ok(number) => Ok((
+    match day.adding(alloc, plan, sources, new) {
+        Ok((number, after)) => Ok((
             Reply::Item(number),
             item_changed(alloc, day, after, u32::from(number))?,
         )),

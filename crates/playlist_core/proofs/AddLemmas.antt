@@ -187,6 +187,14 @@ module _ (day : Day) (rules : KeepsDayRules day) (is_open : day.state ≡ Open) 
   pub rules-with_item : KeepsDayRules (with_item item day)
   rules-with_item = subst (λ (i : Item). KeepsDayRules (with_item i day)) (sym it.is) numbered_rules
 
+-- a day keeps the rules with the item that is added
+pub rules-added : (day : Day) (plan : PlanRow) (seen : SourcesSeen) (new : NewItem) (item : Item) → KeepsDayRules day
+    → new.mix ≤ 999 → is_kind new.kind ≡ true → item_for day plan seen new ≡ Ok item
+    → KeepsDayRules (with_item item day)
+rules-added day plan seen new item rules mix kind added =
+    let made = for_open day plan seen new item added in
+    rules-with_item day rules made.0 new made.1 mix kind item (accepted day plan seen new item made.2)
+
 -- the items after an insert at the place that was found
 pub inserted : (day : Day) (item : Item) (read : List Item) (place : ℕ) (items : List Item) → read ≡ day.items
     → place ≡ position_or_len (λ i. nat_lt item.pos (i.pos + i.frames)) read → items ≡ insert day.items place item

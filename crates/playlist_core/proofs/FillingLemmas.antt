@@ -64,6 +64,15 @@ module _ (day : Day) (plan : PlanRow) (seen : SourcesSeen) (new : NewItem) where
   unfolding item_in fitting_source
   item_in-placed = within (nat_lt day.frames (new.pos + new.frames))
 
+  -- an item that fits, with what is found where it would be
+  pub item_in-found : (source : Source) (found : Option ℕ) → Ok source ≡ fitting_source day.number day.frames plan seen new
+      → found ≡ taken
+      → unless_taken plan found (with_number (free_number day.items) source new) ≡ item_in day plan seen new
+  item_in-found source found fits is_taken =
+      ap (λ t. unless_taken plan t (with_number (free_number day.items) source new)) is_taken
+      ∙ ap (placed_in day plan new) fits
+      ∙ sym item_in-placed
+
 -- the least number that isn't marked is the least that no item has
 pub free_marked : (marks : List Bool) (items : List Item) → AreMarked marks items
     → least (λ n. not (slice_index_or marks n false)) 1 most_items ≡ free_number items

@@ -13,7 +13,7 @@ ghost use Rattle.playlist_core.specs.Day.{number_removed, picture_in, picture_wi
 ghost use Rattle.playlist_core.specs.declared.item.Item.{Item};
 ghost use Rattle.playlist_core.specs.declared.day.DayState.TheVariants as DayState;
 
-use crate::fitting::{first_outside, first_recalled, fitting_source, placed, refusal_at};
+use crate::fitting::{first_outside, first_recalled, fitting_source, numbered, refusal_at};
 use crate::item::{Item, NewItem};
 use crate::numbers::free_number;
 use crate::places::{first_gap, first_taken, has_item, place_for, place_of};
@@ -258,10 +258,11 @@ impl DayPlan {
     {
         self.keep_the_rules();
         match fitting_source(self.number, self.frames, plan, sources, new) {
-            Ok(source) => {
-                let taken = first_taken(&self.items, new.pos, new.frames);
-                placed(plan, new, source, taken, free_number(&self.items))
-            }
+            // A number is looked for where there is a place.
+            Ok(source) => match first_taken(&self.items, new.pos, new.frames) {
+                Some(taken) => Err(refusal_at(Code::Overlap, plan, taken)),
+                None => numbered(new, source, free_number(&self.items)),
+            },
             Err(refusal) => Err(refusal),
         }
     }
@@ -289,6 +290,41 @@ impl DayPlan {
             Ok(()) => Ok(number),
             Err(_) => Err(Refusal::of(Code::Unavailable)),
         }
+    }
+
+    /// The number of the item of [`DayPlan::item_for`], and the day with it. It is refused as by [`DayPlan::add_item`],
+    /// and is copied where it isn't.
+    pub fn adding<S: Sources>(
+        &self,
+        alloc: Global,
+        plan: &PlanRow,
+        sources: &S,
+        new: &NewItem,
+    ) -> Result<(u16, DayPlan), Refusal>
+        requires mix { new.now.mix ≤ most_mix }
+        requires kind { is_kind new.now.kind ≡ true }
+        ensures added { IfOk result (λ made. (item : Item)
+            × (item_for self.now plan.now (S.seen sources.now) new.now ≡ Ok item)
+            × (made.0 ≡ item.n) × (made.1 ≡ with_item item self.now)) }
+        ensures refused { IfErr result (IsRefusalOf (item_for self.now plan.now (S.seen sources.now) new.now)) }
+    {
+        self.keep_the_rules();
+        let added = self.item_for(plan, sources, new)?;
+        let number = added.n;
+        match self.with(alloc, added) {
+            Ok(day) => Ok((number, day)),
+            Err(_) => Err(Refusal::of(Code::Unavailable)),
+        }
+    }
+
+    // The day with one item more, with which it keeps the rules.
+    fn with(&self, alloc: Global, item: Item) -> Result<DayPlan, Unavailable>
+        requires { KeepsDayRules (with_item item self.now) }
+        ensures { IfOk result (λ d. d ≡ with_item item self.now) }
+    {
+        let mut day = self.copied(alloc)?;
+        day.insert(item)?;
+        Ok(day)
     }
 
     // Puts in an item with which the day keeps the rules, if memory is there.

@@ -82,9 +82,16 @@ pub(crate) fn placed(
 ) -> Result<Item, Refusal>
     ensures { result ≡ unless_taken plan.now taken (with_number number source new.now) }
 {
-    if let Some(taken) = taken {
-        return Err(refusal_at(Code::Overlap, plan, taken));
+    match taken {
+        Some(taken) => Err(refusal_at(Code::Overlap, plan, taken)),
+        None => numbered(new, source, number),
     }
+}
+
+/// The item of a source under a number, or want of one.
+pub(crate) fn numbered(new: &NewItem, source: Source, number: Option<u16>) -> Result<Item, Refusal>
+    ensures { result ≡ with_number number source new.now }
+{
     match number {
         Some(number) => Ok(new.numbered(number, source)),
         None => Err(Refusal::of(Code::DayFull)),

@@ -3,10 +3,9 @@ use Rattle.std.proofs.Common.{◌≡◌, ◌∙◌, Ok, Err, sym, ap}
 use Rattle.channel_plan.specs.declared.plan.PlanRow.{PlanRow}
 use Rattle.playlist_core.specs.declared.item.NewItem.{NewItem}
 use Rattle.playlist_core.specs.declared.source.Source.{Source}
-use Rattle.playlist_core.specs.Picture.{first_painted}
-use Rattle.playlist_core.specs.Day.{Day, free_number, picture_in, unless_taken, with_number}
+use Rattle.playlist_core.specs.Day.{Day, unless_taken, with_number}
 use Rattle.playlist_core.specs.Filling.{fitting_source}
-use Rattle.playlist_core.proofs.FillingLemmas.{item_in-placed, placed_in}
+use Rattle.playlist_core.proofs.FillingLemmas.{item_in-found, item_in-placed, placed_in}
 use Rattle.playlist_core.proofs.filling.DayBuilder.item_in.Goals as goal
 
 pub returns-in-Err : goal.returns-in-Err
@@ -26,14 +25,9 @@ returns-in-Ok g c =
     let seen = g.S.Sources.seen c.args.sources.now in
     let new : NewItem = c.args.new.now in
     let source : Source = c.in-Ok.source in
-    let frames = c.self.inside.frames in
-    let fits : Ok source ≡ fitting_source day.number day.frames plan seen new =
-    c.in-Ok.ensures.source ∙ ap (λ (d : Day). fitting_source d.number d.frames plan seen new) c.self.view_is in
-    let taken : c.first_taken-taken.result ≡ first_painted new.pos new.frames (picture_in day) =
-    c.first_taken-taken.ensures in
-    let number : c.free_number.result ≡ free_number day.items = c.free_number.ensures in
+    let found = c.first_taken-taken.result in
     c.placed.ensures
-    ∙ ap (λ t. unless_taken plan t (with_number c.free_number.result source new)) taken
-    ∙ ap (λ n. unless_taken plan (first_painted new.pos new.frames (picture_in day)) (with_number n source new)) number
-    ∙ ap (placed_in day plan new) fits
-    ∙ sym (item_in-placed day plan seen new)
+    ∙ ap (λ n. unless_taken plan found (with_number n source new)) c.free_number.ensures
+    ∙ item_in-found day plan seen new source found
+    (c.in-Ok.ensures.source ∙ ap (λ (d : Day). fitting_source d.number d.frames plan seen new) c.self.view_is)
+    c.first_taken-taken.ensures
