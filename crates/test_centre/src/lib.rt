@@ -7,6 +7,8 @@
 #[cfg(test)]
 mod asked;
 #[cfg(test)]
+mod asserts;
+#[cfg(test)]
 mod centres;
 #[cfg(test)]
 mod others;

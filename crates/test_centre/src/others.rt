@@ -1,7 +1,7 @@
 //! What the channels beside channel 1 ask in a centre, by the numbers of both.
 use channel_plan::PlanRow;
 use std::alloc::Global;
-use std::test::Fail;
+use std::process::Abort;
 use timecode::{Rate, day_frames, to_timecode};
 
 const RATES: [Rate; 4] = [Rate::F24, Rate::F25, Rate::F30, Rate::Df30];
@@ -50,37 +50,44 @@ pub(crate) fn plan_row(centre: u16, channel: u16) -> PlanRow {
     }
 }
 
+// How a message of a channel begins.
+fn post(rt: &impl Abort, alloc: Global, channel: u16, path: &str) -> String {
+    format!(in alloc; "POST /ch/{channel}/{path}").expect(rt, "memory")
+}
+
+fn add(rt: &impl Abort, asked: &mut Vec<Asked>, message: Asked) {
+    asked.push(message).expect(rt, "memory");
+}
+
 /// One to four tapes.
-pub(crate) fn tapes_of(alloc: Global, centre: u16, channel: u16) -> Result<Vec<Asked>, Fail> {
+pub(crate) fn tapes_of(rt: &impl Abort, alloc: Global, centre: u16, channel: u16) -> Vec<Asked> {
     let mixed = mixed(centre, channel);
     let mut asked = Vec::new(alloc);
     for slot in 1..=1 + mixed % 4 {
         let barcode = BARCODES[usize::from(mixed.wrapping_add(slot) % 5)];
-        asked.push((
-            format!(in alloc; "POST /ch/{channel}/tapes")?,
-            format!(in alloc; "{{\"barcode\":\"{barcode}\",\"slot\":{slot}}}")?,
-        ))?;
+        let body = format!(in alloc; "{{\"barcode\":\"{barcode}\",\"slot\":{slot}}}").expect(
+            rt, "memory",
+        );
+        add(rt, &mut asked, (post(rt, alloc, channel, "tapes"), body));
     }
-    Ok(asked)
+    asked
 }
 
 /// A clip: channel 2 has the one that it lends in every centre.
-pub(crate) fn clip_of(alloc: Global, centre: u16, channel: u16) -> Result<Asked, Fail> {
+pub(crate) fn clip_of(rt: &impl Abort, alloc: Global, centre: u16, channel: u16) -> Asked {
     let mixed = mixed(centre, channel);
     let (frames, title, umid) = match channel {
         2 => (125, "LENT NEWS", UMIDS[0]),
         _ => (1 + mixed % 1_000, "NEWS", UMIDS[usize::from(mixed % 3)]),
     };
-    Ok((
-        format!(in alloc; "POST /ch/{channel}/clips")?,
-        format!(in alloc;
-            "{{\"frames\":{frames},\"in\":\"00:00:00:00\",\"tape\":1,\"title\":\"{title}\",\"umid\":\"{umid}\"}}"
-        )?,
-    ))
+    let body = format!(in alloc;
+        "{{\"frames\":{frames},\"in\":\"00:00:00:00\",\"tape\":1,\"title\":\"{title}\",\"umid\":\"{umid}\"}}"
+    ).expect(rt, "memory");
+    (post(rt, alloc, channel, "clips"), body)
 }
 
 /// Offers. Channel 2 lends to channel 1, all others to channel 2, and each to one more, which may be none.
-pub(crate) fn offers_of(alloc: Global, centre: u16, channel: u16) -> Result<Vec<Asked>, Fail> {
+pub(crate) fn offers_of(rt: &impl Abort, alloc: Global, centre: u16, channel: u16) -> Vec<Asked> {
     let mixed = mixed(centre, channel);
     let first = match channel {
         2 => 1,
@@ -88,16 +95,14 @@ pub(crate) fn offers_of(alloc: Global, centre: u16, channel: u16) -> Result<Vec<
     };
     let mut asked = Vec::new(alloc);
     for to in [first, 3 + mixed % 17] {
-        asked.push((
-            format!(in alloc; "POST /ch/{channel}/offers")?,
-            format!(in alloc; "{{\"clip\":\"C0000001\",\"to\":{to}}}")?,
-        ))?;
+        let body = format!(in alloc; "{{\"clip\":\"C0000001\",\"to\":{to}}}").expect(rt, "memory");
+        add(rt, &mut asked, (post(rt, alloc, channel, "offers"), body));
     }
-    Ok(asked)
+    asked
 }
 
 /// Which of these it asks behind that differs. What channel 2 lends to channel 1 stays, retired or not.
-pub(crate) fn changes_of(alloc: Global, centre: u16, channel: u16) -> Result<Vec<Asked>, Fail> {
+pub(crate) fn changes_of(rt: &impl Abort, alloc: Global, centre: u16, channel: u16) -> Vec<Asked> {
     let mixed = mixed(centre, channel);
     let mut asked = Vec::new(alloc);
     for (path, asks) in [
@@ -107,76 +112,71 @@ pub(crate) fn changes_of(alloc: Global, centre: u16, channel: u16) -> Result<Vec
         ("offers/1/withdraw", channel > 2 && mixed % 7 == 0),
     ] {
         if asks {
-            asked.push((
-                format!(in alloc; "POST /ch/{channel}/{path}")?,
-                String::new(alloc),
-            ))?;
+            let message = (post(rt, alloc, channel, path), String::new(alloc));
+            add(rt, &mut asked, message);
         }
     }
-    Ok(asked)
+    asked
 }
 
-fn open_day(alloc: Global, channel: u16, day: u16) -> Result<Asked, Fail> {
-    Ok((
-        format!(in alloc; "POST /ch/{channel}/days")?,
-        format!(in alloc; "{{\"day\":{day}}}")?,
-    ))
+fn open_day(rt: &impl Abort, alloc: Global, channel: u16, day: u16) -> Asked {
+    let body = format!(in alloc; "{{\"day\":{day}}}").expect(rt, "memory");
+    (post(rt, alloc, channel, "days"), body)
 }
 
 // An item at the start of a day.
 fn add_item(
+    rt: &impl Abort,
     alloc: Global,
     row: PlanRow,
     day: u16,
     frames: u32,
     source: &str,
-) -> Result<Asked, Fail> {
+) -> Asked {
     let channel = row.ch;
-    let at = to_timecode(row.start, row.rate).ok().ok_or("a start")?;
-    Ok((
-        format!(in alloc; "POST /ch/{channel}/days/{day}/items")?,
-        format!(in alloc;
-            "{{\"at\":\"{at}\",\"frames\":{frames},\"in\":\"00:00:00:00\",\"mix\":0,\"source\":\"{source}\"}}"
-        )?,
-    ))
+    let at = to_timecode(row.start, row.rate).expect(rt, "a start");
+    let start = format!(in alloc; "POST /ch/{channel}/days/{day}/items").expect(rt, "memory");
+    let body = format!(in alloc;
+        "{{\"at\":\"{at}\",\"frames\":{frames},\"in\":\"00:00:00:00\",\"mix\":0,\"source\":\"{source}\"}}"
+    ).expect(rt, "memory");
+    (start, body)
 }
 
 /// Open days of the numbers of channel 1's, and of another: day 8 has an item.
-pub(crate) fn days_of(alloc: Global, centre: u16, channel: u16) -> Result<Vec<Asked>, Fail> {
+pub(crate) fn days_of(rt: &impl Abort, alloc: Global, centre: u16, channel: u16) -> Vec<Asked> {
     let mixed = mixed(centre, channel);
     let row = plan_row(centre, channel);
     let source = SOURCES[usize::from(mixed % 4)];
     let mut asked = Vec::new(alloc);
-    asked.push(open_day(alloc, channel, 7)?)?;
-    asked.push(open_day(alloc, channel, 8)?)?;
-    asked.push(open_day(alloc, channel, 10 + mixed % 90)?)?;
-    asked.push(add_item(alloc, row, 8, u32::from(1 + mixed % 100), source)?)?;
-    Ok(asked)
+    for day in [7, 8, 10 + mixed % 90] {
+        add(rt, &mut asked, open_day(rt, alloc, channel, day));
+    }
+    let frames = u32::from(1 + mixed % 100);
+    let item = add_item(rt, alloc, row, 8, frames, source);
+    add(rt, &mut asked, item);
+    asked
 }
 
 /// What three of four of them do with day 7: it is black, and sealed, and some of it is aired.
-pub(crate) fn airings_of(alloc: Global, centre: u16, channel: u16) -> Result<Vec<Asked>, Fail> {
+pub(crate) fn airings_of(rt: &impl Abort, alloc: Global, centre: u16, channel: u16) -> Vec<Asked> {
     let mixed = mixed(centre, channel);
     let mut asked = Vec::new(alloc);
     if mixed % 4 == 3 {
-        return Ok(asked);
+        return asked;
     }
     let row = plan_row(centre, channel);
-    let at = to_timecode(row.start, row.rate).ok().ok_or("a start")?;
+    let at = to_timecode(row.start, row.rate).expect(rt, "a start");
     let frames = 1 + mixed % 900;
     let reel = REELS[usize::from(mixed % 5)];
-    asked.push(add_item(alloc, row, 7, day_frames(row.rate), "BL")?)?;
-    asked.push((
-        format!(in alloc; "POST /ch/{channel}/days/7/seal")?,
-        String::new(alloc),
-    ))?;
-    asked.push((
-        format!(in alloc; "POST /ch/{channel}/days/7/asrun/1")?,
-        format!(in alloc; "{at},{frames},{reel},00:00:00:00\n")?,
-    ))?;
-    asked.push((
-        format!(in alloc; "POST /ch/{channel}/days/7/asrun/2")?,
-        String::new(alloc),
-    ))?;
-    Ok(asked)
+    let item = add_item(rt, alloc, row, 7, day_frames(row.rate), "BL");
+    add(rt, &mut asked, item);
+    let aired = format!(in alloc; "{at},{frames},{reel},00:00:00:00\n").expect(rt, "memory");
+    for (path, body) in [
+        ("days/7/seal", String::new(alloc)),
+        ("days/7/asrun/1", aired),
+        ("days/7/asrun/2", String::new(alloc)),
+    ] {
+        add(rt, &mut asked, (post(rt, alloc, channel, path), body));
+    }
+    asked
 }

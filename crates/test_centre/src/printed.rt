@@ -1,15 +1,13 @@
 //! Tables of a channel as text, over both stores, to writers that take all of it and that fail.
 
-use crate::centres::are_answered;
+use crate::asserts::same_in;
+use crate::centres::{are_answered, tables_of};
 use channel_plan::PlanRow;
 use channel_view::MemRows;
 use channel_view_model::{RowStore, Table, TableFault};
-use station_tables::centre_in_memory;
 use std::alloc::Global;
-use std::fmt::Debug;
 use std::io::{self, Error, ErrorKind, Write};
 use std::process::Abort;
-use std::test::Fail;
 
 // Two tapes of channel 1, of which one is pulled, a clip that is lent to channel 2, and two days; and a tape, a clip and
 // a day of this.
@@ -84,16 +82,6 @@ impl Write for Taking {
     }
 }
 
-// What was found is what was wanted, in one of many cases.
-fn same_in<C: Debug + Drop, T: PartialEq + Debug + Drop>(
-    rt: &impl Abort,
-    case: C,
-    found: T,
-    wanted: T,
-) {
-    assert_eq!(rt; found, wanted, "{case:?}");
-}
-
 // A table of a channel, written to a writer that takes so many bytes: they are a beginning of this text, all of it
 // where there is room.
 fn is_written<S: RowStore>(
@@ -122,11 +110,8 @@ fn is_written<S: RowStore>(
     }
 }
 
-fn are_written<S: RowStore>(rt: &impl Abort, alloc: Global, store: &mut S) -> Result<(), Fail> {
-    are_answered(rt, alloc, store, MESSAGES)?;
-    for room in 0..=65 {
-        is_written(rt, alloc, store, room, (1, Table::Vault, VAULT));
-    }
+// The tables of both channels, where there is room for little, all but a byte, and all of each.
+fn each_is_written<S: RowStore>(rt: &impl Abort, alloc: Global, store: &mut S) {
     for (channel, table, text) in [
         (1, Table::Clips, CLIPS),
         (2, Table::Clips, DROP_FRAME_CLIPS),
@@ -150,6 +135,10 @@ fn are_written<S: RowStore>(rt: &impl Abort, alloc: Global, store: &mut S) -> Re
             is_written(rt, alloc, store, room, (channel, table, text));
         }
     }
+}
+
+// A channel that isn't in the plan has no table.
+fn none_is_written<S: RowStore>(rt: &impl Abort, alloc: Global, store: &mut S) {
     let mut output = Taking {
         room: 1,
         taken: Vec::new(alloc),
@@ -161,24 +150,36 @@ fn are_written<S: RowStore>(rt: &impl Abort, alloc: Global, store: &mut S) -> Re
         (done, output.taken.as_slice()),
         (Ok(false), b"".as_slice()),
     );
-    Ok(())
+}
+
+fn are_written<S: RowStore>(rt: &impl Abort, alloc: Global, store: &mut S) {
+    are_answered(rt, alloc, store, MESSAGES);
+    for room in 0..=65 {
+        is_written(rt, alloc, store, room, (1, Table::Vault, VAULT));
+    }
+    each_is_written(rt, alloc, store);
+    none_is_written(rt, alloc, store);
+}
+
+fn are_written_from_lists(rt: &impl Abort, alloc: Global, plan: &[PlanRow]) {
+    let mut lists = MemRows::new(alloc, plan).expect(rt, "a plan");
+    are_written(rt, alloc, &mut lists);
+}
+
+fn are_written_from_tables(rt: &impl Abort, alloc: Global, plan: &[PlanRow]) {
+    let mut tables = tables_of(rt, alloc, plan);
+    are_written(rt, alloc, &mut tables);
+    let _ = tables.into_connection();
 }
 
 #[test]
-fn tables_are_written_as_far_as_the_writer_takes_them(rt: HostRuntime) -> Result<(), Fail> {
+fn tables_are_written_as_far_as_the_writer_takes_them(rt: HostRuntime) {
     let alloc = rt.alloc();
     let mut plan = Vec::new(alloc);
     for row in ["2,df,00:00:00;00,1", "1,25,06:00:00:00,40"] {
-        plan.push(PlanRow::read(row.as_bytes()).ok().ok_or("a plan row")?)?;
+        let row = PlanRow::read(row.as_bytes()).expect(&rt, "a plan row");
+        plan.push(row).expect(&rt, "memory");
     }
-    let mut lists = MemRows::new(alloc, &plan).ok().ok_or("a plan")?;
-    are_written(&rt, alloc, &mut lists)?;
-    match centre_in_memory(alloc, &plan) {
-        Ok(mut tables) => {
-            let done = are_written(&rt, alloc, &mut tables);
-            let _ = tables.into_connection();
-            done
-        }
-        Err(refusal) => Err(Fail::from(refusal)),
-    }
+    are_written_from_lists(&rt, alloc, &plan);
+    are_written_from_tables(&rt, alloc, &plan);
 }

@@ -1,5 +1,6 @@
 //! Conversations as texts, for tests over both stores.
-use std::alloc::{AllocError, Global};
+use std::alloc::Global;
+use std::process::Abort;
 
 /// A message, by how its first line begins and its body, and its answer, by its status and its body.
 #[derive(Drop)]
@@ -12,59 +13,58 @@ pub struct Exchange {
 
 impl Exchange {
     /// The whole message.
-    pub fn message(&self, alloc: Global) -> Result<String, AllocError> {
-        message(alloc, self.start.as_str(), self.body.as_str())
+    pub fn message(&self, rt: &impl Abort, alloc: Global) -> String {
+        message(rt, alloc, self.start.as_str(), self.body.as_str())
     }
 
     /// The whole answer. A `GET` that isn't refused is answered plain text, any other message JSON.
-    pub fn answer(&self, alloc: Global) -> Result<String, AllocError> {
+    pub fn answer(&self, rt: &impl Abort, alloc: Global) -> String {
         let content_type = if self.start.as_str().starts_with("GET") && self.status == "200 OK" {
             "text/plain"
         } else {
             "application/json"
         };
-        answer(alloc, self.status, content_type, self.answered.as_str())
+        let body = self.answered.as_str();
+        answer(rt, alloc, self.status, content_type, body)
     }
 
     // One of a script, behind the mark of its first line.
-    fn read(alloc: Global, text: &str) -> Result<Option<Exchange>, AllocError> {
-        let Some((sent, answer)) = text.split_once("\n< ") else {
-            return Ok(None);
-        };
+    fn read(rt: &impl Abort, alloc: Global, text: &str) -> Exchange {
+        let (sent, answer) = text.split_once("\n< ").expect(rt, "an answer");
         let (line, more) = cut_at(sent, '\n');
         let (method, rest) = cut_at(line, ' ');
         let (path, body) = cut_at(rest, ' ');
         let (line, more_answered) = cut_at(answer, '\n');
         let (number, answered) = cut_at(line, ' ');
-        let Some(status) = status_of(number) else {
-            return Ok(None);
-        };
-        Ok(Some(Exchange {
-            start: format!(in alloc; "{method} {path}")?,
-            body: body_of(alloc, body, more)?,
-            status,
-            answered: body_of(alloc, answered, more_answered)?,
-        }))
+        Exchange {
+            start: format!(in alloc; "{method} {path}").expect(rt, "memory"),
+            body: body_of(rt, alloc, body, more),
+            status: status_of(number).expect(rt, "a status"),
+            answered: body_of(rt, alloc, answered, more_answered),
+        }
     }
 }
 
 /// A message with this body and its length.
-pub fn message(alloc: Global, start: &str, body: &str) -> Result<String, AllocError> {
+pub fn message(rt: &impl Abort, alloc: Global, start: &str, body: &str) -> String {
     let len = body.len();
-    format!(in alloc; "{start} HTTP/1.1\r\nContent-Length: {len}\r\n\r\n{body}")
+    format!(in alloc; "{start} HTTP/1.1\r\nContent-Length: {len}\r\n\r\n{body}").expect(
+        rt, "memory",
+    )
 }
 
 /// An answer of this status, with this body, its type and its length.
 pub fn answer(
+    rt: &impl Abort,
     alloc: Global,
     status: &str,
     content_type: &str,
     body: &str,
-) -> Result<String, AllocError> {
+) -> String {
     let len = body.len();
     format!(in alloc;
         "HTTP/1.1 {status}\r\nContent-Length: {len}\r\nContent-Type: {content_type}\r\n\r\n{body}"
-    )
+    ).expect(rt, "memory")
 }
 
 // The text in front of the first such character, and behind it.
@@ -85,20 +85,24 @@ fn status_of(number: &str) -> Option<&'static str> {
 }
 
 // A body, of what stands in its message's line and of the lines under it.
-fn body_of(alloc: Global, start: &str, more: &str) -> Result<String, AllocError> {
-    let mut body = String::from_str(alloc, start)?;
+fn body_of(rt: &impl Abort, alloc: Global, start: &str, more: &str) -> String {
+    let mut body = String::from_str(alloc, start).expect(rt, "memory");
     for line in more.lines() {
-        add_line(&mut body, line)?;
+        add_line(rt, &mut body, line);
     }
-    Ok(body)
+    body
 }
 
-fn add_line(body: &mut String, line: &str) -> Result<(), AllocError> {
+fn add(rt: &impl Abort, body: &mut String, text: &str) {
+    body.push_str(text).expect(rt, "memory");
+}
+
+fn add_line(rt: &impl Abort, body: &mut String, line: &str) {
     if let Some(text) = line.strip_prefix("+ ") {
-        return body.push_str(text);
+        return add(rt, body, text);
     }
     let Some(text) = line.strip_prefix("|") else {
-        return Ok(());
+        return;
     };
     let text = match text.strip_prefix(" ") {
         Some(text) => text,
@@ -106,12 +110,12 @@ fn add_line(body: &mut String, line: &str) -> Result<(), AllocError> {
     };
     match text.strip_suffix("\\r") {
         Some(text) => {
-            body.push_str(text)?;
-            body.push_str("\r\n")
+            add(rt, body, text);
+            add(rt, body, "\r\n");
         }
         None => {
-            body.push_str(text)?;
-            body.push('\n')
+            add(rt, body, text);
+            add(rt, body, "\n");
         }
     }
 }
@@ -129,22 +133,17 @@ fn is_marked(script: &str) -> bool {
     script.starts_with('\n')
 }
 
-/// The exchanges of a script, or nothing if it is none. Its first line is empty, and each other one has a mark: `>` in
+/// The exchanges of a script: what is none ends the test. Its first line is empty, and each other one has a mark: `>` in
 /// front of a message, which is its method, its path and, behind a space, its body; `<` in front of its answer, which
 /// is the number of its status and its body. Under either a line with `+` goes on with the body, and one with `|` is a
 /// line of the body, which ends in a line feed, and in a carriage return in front of it where the script has `\r`
 /// there. A line with `#` is a remark.
-pub fn exchanges_of(alloc: Global, script: &str) -> Result<Option<Vec<Exchange>>, AllocError> {
+pub fn exchanges_of(rt: &impl Abort, alloc: Global, script: &str) -> Vec<Exchange> {
+    assert!(rt; is_marked(script), "a script");
     let mut exchanges = Vec::new(alloc);
     for text in script.split("\n> ").skip(1) {
-        match Exchange::read(alloc, text)? {
-            Some(exchange) => exchanges.push(exchange)?,
-            None => return Ok(None),
-        }
+        let exchange = Exchange::read(rt, alloc, text);
+        exchanges.push(exchange).expect(rt, "memory");
     }
-    if is_marked(script) {
-        Ok(Some(exchanges))
-    } else {
-        Ok(None)
-    }
+    exchanges
 }

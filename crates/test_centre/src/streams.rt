@@ -1,12 +1,12 @@
 //! Streams of messages over tables: how they come in reads, where they are cut short, and readers and writers that fail.
 //! `test_messages` has more of them, over lists.
+use crate::asserts::same_in;
+use crate::centres::tables_of;
 use channel_plan::PlanRow;
 use http_office::serving::{End, ServeFault, serve};
-use station_tables::centre_in_memory;
 use std::alloc::Global;
 use std::io::{self, Error, ErrorKind, Read, Write};
 use std::process::Abort;
-use std::test::Fail;
 
 const MESSAGE: &str =
     "POST /ch/1/tapes HTTP/1.1\r\nContent-Length: 25\r\n\r\n{\"barcode\":\"T1\",\"slot\":1}";
@@ -68,99 +68,99 @@ impl Write for Taking {
 // How the stream of this input ends over the tables of channel 1, and how many tapes these hold then: 0, or 1 where
 // the message sent again is answered as known.
 fn served<R: Read, W: Write>(
+    rt: &impl Abort,
     alloc: Global,
     input: &mut R,
     output: &mut W,
-) -> Result<(Result<End, ServeFault>, usize), Fail> {
-    let row = PlanRow::read(b"1,25,06:00:00:00,40")
-        .ok()
-        .ok_or("a plan row")?;
-    let mut tables = match centre_in_memory(alloc, &[row]) {
-        Ok(tables) => tables,
-        Err(refusal) => return Err(Fail::from(refusal)),
-    };
+) -> (Result<End, ServeFault>, usize) {
+    let row = PlanRow::read(b"1,25,06:00:00:00,40").expect(rt, "a plan row");
+    let mut tables = tables_of(rt, alloc, &[row]);
     let end = serve(alloc, &mut tables, input, output);
     let mut again = Vec::new(alloc);
     let _ = serve(alloc, &mut tables, &mut MESSAGE.as_bytes(), &mut again);
     let _ = tables.into_connection();
-    if again.as_slice() == KNOWN.as_bytes() {
-        Ok((end, 1))
-    } else if again.as_slice() == ANSWER.as_bytes() {
-        Ok((end, 0))
+    (end, tapes_before(rt, &again))
+}
+
+// How many tapes there were when the message was answered this.
+fn tapes_before(rt: &impl Abort, answered: &[u8]) -> usize {
+    if answered == KNOWN.as_bytes() {
+        1
     } else {
-        Err(Fail::new("neither answer"))
+        assert!(rt; answered == ANSWER.as_bytes(), "neither answer");
+        0
     }
 }
 
-fn twice(alloc: Global) -> Result<Vec<u8>, Fail> {
-    let mut twice = Vec::from_slice(alloc, MESSAGE.as_bytes())?;
-    twice.extend_from_slice(MESSAGE.as_bytes())?;
-    Ok(twice)
+// Two texts, one behind the other.
+fn joined(rt: &impl Abort, alloc: Global, front: &str, behind: &str) -> Vec<u8> {
+    let mut joined = Vec::from_slice(alloc, front.as_bytes()).expect(rt, "memory");
+    joined
+        .extend_from_slice(behind.as_bytes())
+        .expect(rt, "memory");
+    joined
 }
 
 // Two messages that come in three reads are answered as in one.
-fn is_answered_alike(
-    rt: &impl Abort,
-    alloc: Global,
-    sent: &[u8],
-    (first, second): (usize, usize),
-) -> Result<(), Fail> {
+fn is_answered_alike(rt: &impl Abort, alloc: Global, sent: &[u8], (first, second): (usize, usize)) {
     let (front, rest) = sent.split_at(first.min(sent.len()));
     let (middle, last) = rest.split_at(second.min(rest.len()));
     let mut output = Vec::new(alloc);
-    let (end, tapes) = served(alloc, &mut front.chain(middle).chain(last), &mut output)?;
-    assert_eq!(rt; (end, tapes), (Ok(End::Closed), 1), "{first} {second}");
-    let mut wanted = Vec::from_slice(alloc, ANSWER.as_bytes())?;
-    wanted.extend_from_slice(KNOWN.as_bytes())?;
-    assert_eq!(rt; output.as_slice(), wanted.as_slice(), "{first} {second}");
-    Ok(())
+    let mut input = front.chain(middle).chain(last);
+    let found = served(rt, alloc, &mut input, &mut output);
+    same_in(rt, (first, second), found, (Ok(End::Closed), 1));
+    let wanted = joined(rt, alloc, ANSWER, KNOWN);
+    same_in(rt, (first, second), output, wanted);
 }
 
 #[test]
-fn a_stream_over_tables_is_answered_wherever_it_is_cut(rt: HostRuntime) -> Result<(), Fail> {
-    let sent = twice(rt.alloc())?;
+fn a_stream_over_tables_is_answered_wherever_it_is_cut(rt: HostRuntime) {
+    let sent = joined(&rt, rt.alloc(), MESSAGE, MESSAGE);
     for first in 0..sent.len() {
         for second in [0, 1, 25, 74] {
-            is_answered_alike(&rt, rt.alloc(), &sent, (first, second))?;
+            is_answered_alike(&rt, rt.alloc(), &sent, (first, second));
         }
     }
-    Ok(())
+}
+
+// A read fails behind these bytes of two messages.
+fn is_answered_before(rt: &impl Abort, alloc: Global, read: &[u8]) {
+    let count = read.len();
+    let mut output = Vec::new(alloc);
+    let mut input = Failing { rest: read };
+    let found = served(rt, alloc, &mut input, &mut output);
+    let (wanted, held) = if count < MESSAGE.len() {
+        ("", 0)
+    } else {
+        (ANSWER, 1)
+    };
+    same_in(rt, count, found, (Err(ServeFault::Read), held));
+    same_in(rt, count, output.as_slice(), wanted.as_bytes());
 }
 
 #[test]
-fn a_failed_read_over_tables_leaves_no_whole_message(rt: HostRuntime) -> Result<(), Fail> {
-    let sent = twice(rt.alloc())?;
+fn a_failed_read_over_tables_leaves_no_whole_message(rt: HostRuntime) {
+    let sent = joined(&rt, rt.alloc(), MESSAGE, MESSAGE);
     for count in 0..sent.len() {
-        let mut output = Vec::new(rt.alloc());
-        let mut input = Failing {
-            rest: &sent[..count],
-        };
-        let (end, tapes) = served(rt.alloc(), &mut input, &mut output)?;
-        let (wanted, held) = if count < MESSAGE.len() {
-            ("", 0)
-        } else {
-            (ANSWER, 1)
-        };
-        assert_eq!(rt; (end, tapes), (Err(ServeFault::Read), held), "{count}");
-        assert_eq!(rt; output.as_slice(), wanted.as_bytes(), "{count}");
+        is_answered_before(&rt, rt.alloc(), &sent[..count]);
     }
-    Ok(())
+}
+
+// A write fails behind these bytes of the answer.
+fn is_done_before(rt: &impl Abort, alloc: Global, written: &[u8]) {
+    let room = written.len();
+    let mut output = Taking {
+        room,
+        taken: Vec::new(alloc),
+    };
+    let found = served(rt, alloc, &mut MESSAGE.as_bytes(), &mut output);
+    same_in(rt, room, found, (Err(ServeFault::Write), 1));
+    same_in(rt, room, output.taken.as_slice(), written);
 }
 
 #[test]
-fn a_failed_write_over_tables_has_done_its_message(rt: HostRuntime) -> Result<(), Fail> {
+fn a_failed_write_over_tables_has_done_its_message(rt: HostRuntime) {
     for room in 0..ANSWER.len() {
-        let mut output = Taking {
-            room,
-            taken: Vec::new(rt.alloc()),
-        };
-        let (end, tapes) = served(rt.alloc(), &mut MESSAGE.as_bytes(), &mut output)?;
-        assert_eq!(rt; (end, tapes), (Err(ServeFault::Write), 1), "{room}");
-        assert_eq!(rt;
-            output.taken.as_slice(),
-            &ANSWER.as_bytes()[..room],
-            "{room}"
-        );
+        is_done_before(&rt, rt.alloc(), &ANSWER.as_bytes()[..room]);
     }
-    Ok(())
 }

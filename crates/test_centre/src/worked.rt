@@ -1,14 +1,12 @@
 //! Worked requests of three channels, over stores that refuse each load: over lists, and over tables as the program has
 //! them, with the days of late at hand.
-use crate::centres::are_answered;
+use crate::centres::{are_answered, tables_of};
 use crate::recording::Recording;
 use channel_plan::PlanRow;
 use channel_view::MemRows;
 use rows_at_hand::RecentDays;
-use station_tables::centre_in_memory;
 use std::alloc::Global;
 use std::process::Abort;
-use std::test::Fail;
 
 /// A tape in a slot that isn't there, in one that is taken, and in one that was left.
 const A_VAULT: &str = r#"
@@ -239,38 +237,32 @@ const A_MATCH: &str = r#"
 
 const WORKED: [&str; 6] = [A_VAULT, A_LOAN, SOME_LISTS, A_GAP, WHAT_WAS_AIRED, A_MATCH];
 
-fn plan(alloc: Global) -> Result<Vec<PlanRow>, Fail> {
+fn plan(rt: &impl Abort, alloc: Global) -> Vec<PlanRow> {
     let mut rows = Vec::new(alloc);
     for text in [
         "1,25,06:00:00:00,40",
         "2,25,06:00:00:00,40",
         "3,25,06:00:00:00,40",
     ] {
-        rows.push(PlanRow::read(text.as_bytes()).ok().ok_or("a row")?)?;
+        let row = PlanRow::read(text.as_bytes()).expect(rt, "a row");
+        rows.push(row).expect(rt, "memory");
     }
-    Ok(rows)
+    rows
 }
 
-fn are_answered_over_tables(rt: &impl Abort, alloc: Global, script: &str) -> Result<(), Fail> {
-    match centre_in_memory(alloc, &plan(alloc)?) {
-        Ok(tables) => {
-            let mut store = RecentDays::over(alloc, Recording::over(tables, 1));
-            let answered = are_answered(rt, alloc, &mut store, script);
-            let _ = store.into_store().into_store().into_connection();
-            answered?;
-            Ok(())
-        }
-        Err(refusal) => Err(Fail::from(refusal)),
-    }
+fn are_answered_over_tables(rt: &impl Abort, alloc: Global, script: &str) {
+    let tables = tables_of(rt, alloc, &plan(rt, alloc));
+    let mut store = RecentDays::over(alloc, Recording::over(tables, 1));
+    are_answered(rt, alloc, &mut store, script);
+    let _ = store.into_store().into_store().into_connection();
 }
 
 #[test]
-fn worked_requests_load_nothing(rt: HostRuntime) -> Result<(), Fail> {
+fn worked_requests_load_nothing(rt: HostRuntime) {
     let alloc = rt.alloc();
     for script in WORKED {
-        let lists = MemRows::new(alloc, &plan(alloc)?).ok().ok_or("a plan")?;
-        are_answered(&rt, alloc, &mut Recording::over(lists, 1), script)?;
-        are_answered_over_tables(&rt, alloc, script)?;
+        let lists = MemRows::new(alloc, &plan(&rt, alloc)).expect(&rt, "a plan");
+        are_answered(&rt, alloc, &mut Recording::over(lists, 1), script);
+        are_answered_over_tables(&rt, alloc, script);
     }
-    Ok(())
 }

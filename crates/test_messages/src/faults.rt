@@ -4,11 +4,10 @@ use crate::streams::{Full, MESSAGE, Steps, Taking};
 use channel_plan::{LineFault, ListFault};
 use playout_actions::{Fault, FaultLines, InputFault, StreamFault, answer_input};
 use std::io::ErrorKind;
-use std::test::Fail;
 use timecode::TcFault;
 
 #[test]
-fn faults_are_one_line(rt: HostRuntime) -> Result<(), Fail> {
+fn faults_are_one_line(rt: HostRuntime) {
     for (fault, line) in [
         (Fault::Label(TcFault::LabelForm), "1 LabelForm\n"),
         (
@@ -34,11 +33,10 @@ fn faults_are_one_line(rt: HostRuntime) -> Result<(), Fail> {
         lines.report(fault);
         same(&rt, told.as_slice(), line.as_bytes());
     }
-    Ok(())
 }
 
 #[test]
-fn broken_streams_are_faults(rt: HostRuntime) -> Result<(), Fail> {
+fn broken_streams_are_faults(rt: HostRuntime) {
     let alloc = rt.alloc();
     let rows = ["1,25,06:00:00:00,40"];
     let mut input = Steps {
@@ -68,5 +66,4 @@ fn broken_streams_are_faults(rt: HostRuntime) -> Result<(), Fail> {
         lines.report(Fault::Open);
         same(&rt, output.taken.as_slice(), &line[..room.min(line.len())]);
     }
-    Ok(())
 }

@@ -7,9 +7,8 @@ use channel_view_model::{
     Change, Command, Need, Outcome, Reply, RowStore, Table, TableText, VaultChange, VaultCommand,
 };
 use channel_view_rules::decide;
-use std::alloc::{AllocError, Global};
+use std::alloc::Global;
 use std::process::Abort;
-use std::test::Fail;
 use timecode::Rate;
 use vault_core::{Put, RawText, Tape, TapeCommand};
 
@@ -22,14 +21,13 @@ const CHANNEL_1: PlanRow = PlanRow {
 
 const CHANNEL_2: PlanRow = PlanRow { ch: 2, ..CHANNEL_1 };
 
-fn store_of(alloc: Global) -> Result<MemRows, Fail> {
-    let store = MemRows::new(alloc, &[CHANNEL_1, CHANNEL_2]);
-    Ok(store.ok().ok_or("a plan")?)
+fn store_of(rt: &impl Abort, alloc: Global) -> MemRows {
+    MemRows::new(alloc, &[CHANNEL_1, CHANNEL_2]).expect(rt, "a plan")
 }
 
-fn add_tape(alloc: Global, barcode: &str, slot: u32) -> Result<Command, AllocError> {
-    let barcode = RawText::of(String::from_str(alloc, barcode)?);
-    Ok(Command::Vault(VaultCommand::Tape(TapeCommand::Add { barcode, slot })))
+fn add_tape(rt: &impl Abort, alloc: Global, barcode: &str, slot: u32) -> Command {
+    let barcode = RawText::of(String::from_str(alloc, barcode).expect(rt, "a barcode"));
+    Command::Vault(VaultCommand::Tape(TapeCommand::Add { barcode, slot }))
 }
 
 fn added(number: u16) -> Outcome {
@@ -37,12 +35,12 @@ fn added(number: u16) -> Outcome {
 }
 
 // A store where channel 1 has a tape, and channel 2 the one that this command adds.
-fn two_tapes(rt: &impl Abort, alloc: Global, others: &Command) -> Result<MemRows, Fail> {
-    let mut store = store_of(alloc)?;
+fn two_tapes(rt: &impl Abort, alloc: Global, others: &Command) -> MemRows {
+    let mut store = store_of(rt, alloc);
     same(rt, handle(alloc, &mut store, 2, others), added(1));
-    let first = add_tape(alloc, "T1", 5)?;
+    let first = add_tape(rt, alloc, "T1", 5);
     same(rt, handle(alloc, &mut store, 1, &first), added(1));
-    Ok(store)
+    store
 }
 
 // It was decided that a tape is to be added, which is tape 2.
@@ -53,73 +51,61 @@ fn adds_tape_2(rt: &impl Abort, decided: (Reply, Change)) {
 }
 
 #[test]
-fn a_decision_changes_nothing(rt: HostRuntime) -> Result<(), Fail> {
+fn a_decision_changes_nothing(rt: HostRuntime) {
     let alloc = rt.alloc();
-    let others = add_tape(alloc, "T9", 9)?;
-    let mut store = two_tapes(&rt, alloc, &others)?;
+    let others = add_tape(&rt, alloc, "T9", 9);
+    let mut store = two_tapes(&rt, alloc, &others);
     // The tape that channel 2 has is free for channel 1, each time.
-    adds_tape_2(
-        &rt,
-        prepare(alloc, &mut store, 1, &others)?.ok_or("channel 1")?,
-    );
-    adds_tape_2(
-        &rt,
-        prepare(alloc, &mut store, 1, &others)?.ok_or("channel 1")?,
-    );
-    Ok(())
+    for _ in 0..2 {
+        let found = prepare(alloc, &mut store, 1, &others).expect(&rt, "memory");
+        adds_tape_2(&rt, found.expect(&rt, "channel 1"));
+    }
 }
 
 #[test]
-fn what_is_seen_decides(rt: HostRuntime) -> Result<(), Fail> {
+fn what_is_seen_decides(rt: HostRuntime) {
     let alloc = rt.alloc();
-    let others = add_tape(alloc, "T9", 9)?;
-    let mut store = two_tapes(&rt, alloc, &others)?;
-    let view = store.load(1)?.ok_or("channel 1")?;
-    adds_tape_2(&rt, decide(alloc, &view, &others)?);
-    Ok(())
+    let others = add_tape(&rt, alloc, "T9", 9);
+    let mut store = two_tapes(&rt, alloc, &others);
+    let view = store.load(1).expect(&rt, "memory").expect(&rt, "channel 1");
+    adds_tape_2(&rt, decide(alloc, &view, &others).expect(&rt, "memory"));
 }
 
 #[test]
-fn a_channel_outside_the_plan_sees_nothing(rt: HostRuntime) -> Result<(), Fail> {
-    let alloc = rt.alloc();
-    let mut store = store_of(alloc)?;
+fn a_channel_outside_the_plan_sees_nothing(rt: HostRuntime) {
+    let mut store = store_of(&rt, rt.alloc());
     let command = Command::Vault(VaultCommand::Tape(TapeCommand::Pull { tape: 1 }));
     let need = Need::of(&command, &[]);
-    assert!(rt; store.fetch(3, &need)?.is_none() && store.load(3)?.is_none());
-    Ok(())
+    assert!(rt; store.fetch(3, &need).expect(&rt, "memory").is_none());
+    assert!(rt; store.load(3).expect(&rt, "memory").is_none());
 }
 
 #[test]
-fn a_table_is_decided_by_what_is_seen(rt: HostRuntime) -> Result<(), Fail> {
+fn a_table_is_decided_by_what_is_seen(rt: HostRuntime) {
     let alloc = rt.alloc();
-    let mut store = store_of(alloc)?;
-    let first = add_tape(alloc, "T1", 5)?;
+    let mut store = store_of(&rt, alloc);
+    let first = add_tape(&rt, alloc, "T1", 5);
     let run_of_two = [(1, first), (3, Command::Table(Table::Vault))];
-    let outcomes = run(alloc, &mut store, &run_of_two)?;
+    let outcomes = run(alloc, &mut store, &run_of_two).expect(&rt, "memory");
     same(&rt, outcomes.get(0), Some(&added(1)));
     same(&rt, outcomes.get(1), Some(&Outcome::NoChannel));
-    let view = store.load(1)?.ok_or("channel 1")?;
-    let text = b"   1 T1          5\nTAPES 1 SHELVED 1 SLOTS 40\n".to_vec(alloc)?;
-    let table = Reply::Table(TableText::of(text));
-    same(
-        &rt,
-        decide(alloc, &view, &Command::Table(Table::Vault))?.0,
-        table,
-    );
-    Ok(())
+    let view = store.load(1).expect(&rt, "memory").expect(&rt, "channel 1");
+    let (reply, _) = decide(alloc, &view, &Command::Table(Table::Vault)).expect(&rt, "memory");
+    let text = b"   1 T1          5\nTAPES 1 SHELVED 1 SLOTS 40\n".to_vec(alloc);
+    let table = Reply::Table(TableText::of(text.expect(&rt, "memory")));
+    same(&rt, reply, table);
 }
 
 #[test]
-fn two_stores_answer_alike(rt: HostRuntime) -> Result<(), Fail> {
+fn two_stores_answer_alike(rt: HostRuntime) {
     let alloc = rt.alloc();
-    let mut one = store_of(alloc)?;
-    let mut other = store_of(alloc)?;
-    let command = add_tape(alloc, "T1", 1)?;
+    let mut one = store_of(&rt, alloc);
+    let mut other = store_of(&rt, alloc);
+    let command = add_tape(&rt, alloc, "T1", 1);
     same(&rt, handle(alloc, &mut other, 2, &command), added(1));
     let said = stores_answer_alike(alloc, &mut one, &mut other, 1, &command);
     same(&rt, &said.0, &added(1));
     same(&rt, said.1, said.0);
-    Ok(())
 }
 
 #[test]

@@ -7,7 +7,6 @@ use std::alloc::Global;
 use std::io::{Read, Write};
 use std::ops::Range;
 use std::process::Abort;
-use std::test::Fail;
 
 const PLAN: [&[u8]; 3] = [
     b"1,25,06:00:00:00,40",
@@ -92,30 +91,40 @@ const MESSAGES: [(&str, Option<&str>); 39] = [
 const MATCHED: &str =
     "06:00:00:00 2159990 OK\n05:59:59:15 10 MISSED\nOK 2159990 SLIP 0 WRONG 0 MISSED 10\n";
 
-fn stream(alloc: Global) -> Result<Vec<u8>, Fail> {
-    let mut sent = Vec::new(alloc);
-    for (path, body) in MESSAGES {
-        match body {
-            Some(body) => write!(
-                sent,
-                "POST {path} HTTP/1.1\r\nContent-Length: {}\r\n\r\n{body}",
-                body.len()
-            )?,
-            None => write!(sent, "GET {path} HTTP/1.1\r\n\r\n")?,
-        }
-    }
-    Ok(sent)
+fn post(rt: &impl Abort, to: &mut Vec<u8>, path: &str, body: &str) {
+    let length = body.len();
+    let written = write!(
+        to,
+        "POST {path} HTTP/1.1\r\nContent-Length: {length}\r\n\r\n{body}"
+    );
+    written.expect(rt, "memory");
 }
 
-fn served<R: Read>(alloc: Global, input: &mut R) -> Result<(Vec<u8>, bool), Fail> {
-    let mut plan = Vec::new(alloc);
-    for row in PLAN {
-        plan.push(PlanRow::read(row).ok().ok_or("a plan row")?)?;
+fn get(rt: &impl Abort, to: &mut Vec<u8>, path: &str) {
+    write!(to, "GET {path} HTTP/1.1\r\n\r\n").expect(rt, "memory");
+}
+
+fn stream(rt: &impl Abort, alloc: Global) -> Vec<u8> {
+    let mut all = Vec::new(alloc);
+    for (path, body) in MESSAGES {
+        match body {
+            Some(body) => post(rt, &mut all, path, body),
+            None => get(rt, &mut all, path),
+        }
     }
-    let mut store = MemRows::new(alloc, &plan).ok().ok_or("a plan")?;
+    all
+}
+
+fn store_of(rt: &impl Abort, alloc: Global) -> MemRows {
+    let plan = PLAN.map(|row| PlanRow::read(row).expect(rt, "a plan row"));
+    MemRows::new(alloc, &plan).expect(rt, "a plan")
+}
+
+// What the stream is answered, and whether it ended between messages.
+fn served<R: Read>(rt: &impl Abort, alloc: Global, input: &mut R) -> (Vec<u8>, bool) {
     let mut output = Vec::new(alloc);
-    let end = serve(alloc, &mut store, input, &mut output);
-    Ok((output, end == Ok(End::Closed)))
+    let end = serve(alloc, &mut store_of(rt, alloc), input, &mut output);
+    (output, end == Ok(End::Closed))
 }
 
 // The stream, cut at two places, is answered as in one read.
@@ -125,66 +134,56 @@ fn is_answered_alike(
     sent: &[u8],
     (first, second): (usize, usize),
     wanted: &[u8],
-) -> Result<(), Fail> {
+) {
     let (front, last) = sent.split_at(second.min(sent.len()));
     let (front, middle) = front.split_at(first.min(front.len()));
     let mut input = front.chain(middle).chain(last);
-    let (output, is_closed) = served(alloc, &mut input)?;
+    let (output, is_closed) = served(rt, alloc, &mut input);
     same_in(
         rt,
         (first, second),
         (output.as_slice(), is_closed),
         (wanted, true),
     );
-    Ok(())
 }
 
 // The stream, and what it is answered in one read.
-fn whole(alloc: Global) -> Result<(Vec<u8>, Vec<u8>), Fail> {
-    let sent = stream(alloc)?;
-    let (wanted, is_closed) = served(alloc, &mut sent.as_slice())?;
-    if is_closed {
-        Ok((sent, wanted))
-    } else {
-        Err("an end between messages".into())
-    }
+fn whole(rt: &impl Abort, alloc: Global) -> (Vec<u8>, Vec<u8>) {
+    let sent = stream(rt, alloc);
+    let (wanted, is_closed) = served(rt, alloc, &mut sent.as_slice());
+    assert!(rt; is_closed);
+    (sent, wanted)
 }
 
 // Each pair of places of which the second is one of these.
-fn pairs_are_answered_alike(
-    rt: &impl Abort,
-    alloc: Global,
-    seconds: Range<usize>,
-) -> Result<(), Fail> {
-    let (sent, wanted) = whole(alloc)?;
+fn pairs_are_answered_alike(rt: &impl Abort, alloc: Global, seconds: Range<usize>) {
+    let (sent, wanted) = whole(rt, alloc);
     for second in seconds {
         for first in 0..second {
-            is_answered_alike(rt, alloc, &sent, (first, second), &wanted)?;
+            is_answered_alike(rt, alloc, &sent, (first, second), &wanted);
         }
     }
-    Ok(())
 }
 
 #[test]
-fn three_channels_are_answered_wherever_their_stream_is_cut(rt: HostRuntime) -> Result<(), Fail> {
+fn three_channels_are_answered_wherever_their_stream_is_cut(rt: HostRuntime) {
     let alloc = rt.alloc();
-    let (sent, wanted) = whole(alloc)?;
+    let (sent, wanted) = whole(&rt, alloc);
     let said = wanted
         .windows(MATCHED.len())
         .filter(|w| *w == MATCHED.as_bytes());
     same(&rt, said.count(), 1);
     for first in 0..sent.len() {
-        is_answered_alike(&rt, alloc, &sent, (first, sent.len()), &wanted)?;
+        is_answered_alike(&rt, alloc, &sent, (first, sent.len()), &wanted);
     }
-    Ok(())
 }
 
 #[test]
-fn three_channels_are_answered_alike_at_two_cuts(rt: HostRuntime) -> Result<(), Fail> {
-    pairs_are_answered_alike(&rt, rt.alloc(), 0..142)
+fn three_channels_are_answered_alike_at_two_cuts(rt: HostRuntime) {
+    pairs_are_answered_alike(&rt, rt.alloc(), 0..142);
 }
 
 #[test]
-fn three_channels_are_answered_alike_at_two_later_cuts(rt: HostRuntime) -> Result<(), Fail> {
-    pairs_are_answered_alike(&rt, rt.alloc(), 142..200)
+fn three_channels_are_answered_alike_at_two_later_cuts(rt: HostRuntime) {
+    pairs_are_answered_alike(&rt, rt.alloc(), 142..200);
 }

@@ -7,7 +7,7 @@ use channel_view::MemRows;
 use http_office::serving::{End, ServeFault, serve};
 use std::alloc::Global;
 use std::io::{self, Error, ErrorKind, Read, Write};
-use std::test::Fail;
+use std::process::Abort;
 
 pub(crate) const MESSAGE: &str =
     "POST /ch/1/tapes HTTP/1.1\r\nContent-Length: 25\r\n\r\n{\"barcode\":\"T1\",\"slot\":1}";
@@ -110,29 +110,37 @@ impl Write for Taking {
 }
 
 /// Over channel 1 alone, of 40 slots.
-pub(crate) fn store_of(alloc: Global) -> Result<MemRows, Fail> {
-    let row = PlanRow::read(b"1,25,06:00:00:00,40")
-        .ok()
-        .ok_or("a plan row")?;
-    Ok(MemRows::new(alloc, &[row]).ok().ok_or("a plan")?)
+pub(crate) fn store_of(rt: &impl Abort, alloc: Global) -> MemRows {
+    let row = PlanRow::read(b"1,25,06:00:00:00,40").expect(rt, "a plan row");
+    MemRows::new(alloc, &[row]).expect(rt, "a plan")
 }
 
 // What a stream is answered over the plan, and how it ended.
 fn served<R: Read>(
+    rt: &impl Abort,
     alloc: Global,
     input: &mut R,
-) -> Result<(Vec<u8>, Result<End, ServeFault>), Fail> {
+) -> (Vec<u8>, Result<End, ServeFault>) {
     let mut output = Vec::new(alloc);
-    let end = serve(alloc, &mut store_of(alloc)?, input, &mut output);
-    Ok((output, end))
+    let end = serve(alloc, &mut store_of(rt, alloc), input, &mut output);
+    (output, end)
+}
+
+// The message twice.
+fn twice(rt: &impl Abort, alloc: Global) -> Vec<u8> {
+    [MESSAGE.as_bytes(), MESSAGE.as_bytes()]
+        .concat(alloc)
+        .expect(rt, "memory")
 }
 
 #[test]
-fn how_a_stream_is_cut_into_reads_does_not_matter(rt: HostRuntime) -> Result<(), Fail> {
+fn how_a_stream_is_cut_into_reads_does_not_matter(rt: HostRuntime) {
     let alloc = rt.alloc();
     let mut wanted = Vec::new(alloc);
     for answer in [ANSWER, NOT_FOUND, KNOWN, BAD_MESSAGE] {
-        wanted.extend_from_slice(answer.as_bytes())?;
+        wanted
+            .extend_from_slice(answer.as_bytes())
+            .expect(&rt, "memory");
     }
     let sent = SENT.as_bytes();
     for first in 0..sent.len() {
@@ -140,7 +148,7 @@ fn how_a_stream_is_cut_into_reads_does_not_matter(rt: HostRuntime) -> Result<(),
             let (front, rest) = sent.split_at(first);
             let (middle, last) = rest.split_at(second.min(rest.len()));
             let mut input = front.chain(middle).chain(last);
-            let (output, end) = served(alloc, &mut input)?;
+            let (output, end) = served(&rt, alloc, &mut input);
             same_in(
                 &rt,
                 (first, second),
@@ -149,15 +157,14 @@ fn how_a_stream_is_cut_into_reads_does_not_matter(rt: HostRuntime) -> Result<(),
             );
         }
     }
-    Ok(())
 }
 
 #[test]
-fn a_message_that_is_cut_short_has_no_answer(rt: HostRuntime) -> Result<(), Fail> {
+fn a_message_that_is_cut_short_has_no_answer(rt: HostRuntime) {
     let alloc = rt.alloc();
     let message = MESSAGE.as_bytes();
     for count in 0..message.len() {
-        let mut store = store_of(alloc)?;
+        let mut store = store_of(&rt, alloc);
         let mut output = Vec::new(alloc);
         let mut input = Steps {
             rest: &message[..count],
@@ -180,14 +187,12 @@ fn a_message_that_is_cut_short_has_no_answer(rt: HostRuntime) -> Result<(), Fail
             (Ok(End::Closed), ANSWER.as_bytes()),
         );
     }
-    Ok(())
 }
 
 #[test]
-fn a_failed_read_leaves_no_whole_message(rt: HostRuntime) -> Result<(), Fail> {
+fn a_failed_read_leaves_no_whole_message(rt: HostRuntime) {
     let alloc = rt.alloc();
-    let mut twice = Vec::from_slice(alloc, MESSAGE.as_bytes())?;
-    twice.extend_from_slice(MESSAGE.as_bytes())?;
+    let twice = twice(&rt, alloc);
     for kind in [ErrorKind::Other, ErrorKind::Interrupted] {
         for step in [1, 40, 1000] {
             for count in 0..twice.len() {
@@ -196,7 +201,7 @@ fn a_failed_read_leaves_no_whole_message(rt: HostRuntime) -> Result<(), Fail> {
                     step,
                     fault: Some(kind),
                 };
-                let (output, end) = served(alloc, &mut input)?;
+                let (output, end) = served(&rt, alloc, &mut input);
                 let wanted = if count < MESSAGE.len() { "" } else { ANSWER };
                 same_in(
                     &rt,
@@ -207,17 +212,15 @@ fn a_failed_read_leaves_no_whole_message(rt: HostRuntime) -> Result<(), Fail> {
             }
         }
     }
-    Ok(())
 }
 
 // Two messages come byte by byte, and the writer takes a part of the first answer, or all of it: the second message is
 // unread, or read and answered nothing, and the first was done.
 #[test]
-fn a_failed_write_leaves_the_next_message_unread(rt: HostRuntime) -> Result<(), Fail> {
+fn a_failed_write_leaves_the_next_message_unread(rt: HostRuntime) {
     let alloc = rt.alloc();
     let answer = ANSWER.as_bytes();
-    let mut twice = Vec::from_slice(alloc, MESSAGE.as_bytes())?;
-    twice.extend_from_slice(MESSAGE.as_bytes())?;
+    let twice = twice(&rt, alloc);
     for full in [
         Full::TakesNone,
         Full::Fails(ErrorKind::Other),
@@ -226,7 +229,7 @@ fn a_failed_write_leaves_the_next_message_unread(rt: HostRuntime) -> Result<(), 
         for room in 0..82 {
             let taken = &answer[..answer.len().min(room)];
             let unread = if taken.len() < answer.len() { 74 } else { 0 };
-            let mut store = store_of(alloc)?;
+            let mut store = store_of(&rt, alloc);
             let mut input = Steps {
                 rest: &twice,
                 step: 1,
@@ -250,20 +253,21 @@ fn a_failed_write_leaves_the_next_message_unread(rt: HostRuntime) -> Result<(), 
             );
         }
     }
-    Ok(())
 }
 
 #[test]
-fn a_stream_has_so_many_reads(rt: HostRuntime) -> Result<(), Fail> {
+fn a_stream_has_so_many_reads(rt: HostRuntime) {
     let alloc = rt.alloc();
     // Each message has 18 bytes, and is read byte by byte.
-    let text = "GET / HTTP/1.1\r\n\r\n".repeat(alloc, 60_000)?;
+    let text = "GET / HTTP/1.1\r\n\r\n"
+        .repeat(alloc, 60_000)
+        .expect(&rt, "memory");
     let mut input = Steps {
         rest: text.as_bytes(),
         step: 1,
         fault: None,
     };
-    let (output, end) = served(alloc, &mut input)?;
+    let (output, end) = served(&rt, alloc, &mut input);
     same(&rt, end, Ok(End::TurnsSpent));
     same(&rt, input.rest.len(), 60_000 * 18 - 1_048_576);
     same(&rt, output.len(), 58_254 * NOT_FOUND.len());
@@ -272,5 +276,4 @@ fn a_stream_has_so_many_reads(rt: HostRuntime) -> Result<(), Fail> {
             .chunks(NOT_FOUND.len())
             .all(|answer| answer == NOT_FOUND.as_bytes())
     );
-    Ok(())
 }

@@ -3,9 +3,13 @@
 #![tactic(auto)]
 
 #[cfg(test)]
+mod asserts;
+#[cfg(test)]
 mod door;
 #[cfg(test)]
 mod schedule;
+#[cfg(test)]
+mod serving;
 #[cfg(test)]
 mod sockets;
 #[cfg(test)]

@@ -5,9 +5,9 @@ use channel_view::MemRows;
 use channel_view_model::RowStore;
 use http_office::answers::Answer;
 use http_office::messages::answer;
-use std::alloc::{AllocError, Global};
+use std::alloc::Global;
 use std::ops::Range;
-use std::test::Fail;
+use std::process::Abort;
 use timecode::Rate;
 
 /// Three channels, whose days begin at 06:00:00:00.
@@ -270,16 +270,17 @@ const OTHER_AIRED: &str =
     "06:00:00:00,1000,BL,00:00:00:00\n06:00:40:00,2158989,C0000001,00:00:00:00\n";
 
 fn asked(
+    rt: &impl Abort,
     alloc: Global,
     method: &str,
     channel: u16,
     path: &str,
     body: &str,
-) -> Result<String, AllocError> {
+) -> String {
     let len = body.len();
     format!(in alloc;
         "{method} /ch/{channel}/{path} HTTP/1.1\r\nContent-Length: {len}\r\n\r\n{body}"
-    )
+    ).expect(rt, "memory")
 }
 
 // The body of an answer that refuses.
@@ -287,7 +288,7 @@ fn is_refusal(body: &str) -> bool {
     body.contains("\"refused\":")
 }
 
-fn answered(alloc: Global, body: &str) -> Result<String, AllocError> {
+fn answered(rt: &impl Abort, alloc: Global, body: &str) -> String {
     let len = body.len();
     let status = if is_refusal(body) {
         "409 Conflict"
@@ -296,37 +297,37 @@ fn answered(alloc: Global, body: &str) -> Result<String, AllocError> {
     };
     format!(in alloc;
         "HTTP/1.1 {status}\r\nContent-Length: {len}\r\nContent-Type: application/json\r\n\r\n{body}"
-    )
+    ).expect(rt, "memory")
 }
 
 // What each channel may read, by its number.
 type Tables = Vec<(u16, Vec<u8>)>;
 
-fn table_of<S: RowStore>(alloc: Global, store: &mut S, channel: u16) -> Result<Vec<u8>, Fail> {
+fn table_of<S: RowStore>(rt: &impl Abort, alloc: Global, store: &mut S, channel: u16) -> Vec<u8> {
     let mut bytes = Vec::new(alloc);
     for table in TABLES {
-        let asked = asked(alloc, "GET", channel, table, "")?;
+        let asked = asked(rt, alloc, "GET", channel, table, "");
         let given = answer(alloc, store, asked.as_bytes());
-        bytes.extend_from_slice(given.bytes())?;
+        bytes.extend_from_slice(given.bytes()).expect(rt, "memory");
     }
-    Ok(bytes)
+    bytes
 }
 
-fn tables<S: RowStore>(alloc: Global, store: &mut S) -> Result<Tables, Fail> {
+fn tables<S: RowStore>(rt: &impl Abort, alloc: Global, store: &mut S) -> Tables {
     let mut tables = Vec::new(alloc);
     for row in PLAN {
-        tables.push((row.ch, table_of(alloc, store, row.ch)?))?;
+        let table = table_of(rt, alloc, store, row.ch);
+        tables.push((row.ch, table)).expect(rt, "memory");
     }
-    Ok(tables)
+    tables
 }
 
 // The tables of a channel whose message it isn't, and who doesn't see what it does, are the same before and after it.
-fn leaves_others(message: &Message, before: &Tables, after: &Tables) -> Result<(), Fail> {
+fn leaves_others(rt: &impl Abort, message: &Message, before: &Tables, after: &Tables) {
     for table in after {
         let is_seen = table.0 == message.0 || Some(table.0) == message.1;
-        held(is_seen || before.contains(table), message)?;
+        held(rt, is_seen || before.contains(table), message);
     }
-    Ok(())
 }
 
 /// The messages with their answers, and what the tables hold before the first and after each.
@@ -338,63 +339,70 @@ pub struct Day {
 
 impl Day {
     /// As it goes over lists, where nothing stops.
-    pub fn told(alloc: Global) -> Result<Day, Fail> {
-        Day::of(alloc, &MESSAGES)
+    pub fn told(rt: &impl Abort, alloc: Global) -> Day {
+        Day::of(rt, alloc, &MESSAGES)
     }
 
     /// What three channels have and lend, and may not do with it.
-    pub fn of_loans(alloc: Global) -> Result<Day, Fail> {
-        Day::of(alloc, &LOANS)
+    pub fn of_loans(rt: &impl Abort, alloc: Global) -> Day {
+        Day::of(rt, alloc, &LOANS)
     }
 
     /// What was aired of a day, told more than once.
-    pub fn of_an_airing(alloc: Global) -> Result<Day, Fail> {
-        Day::of(alloc, &AN_AIRING)
+    pub fn of_an_airing(rt: &impl Abort, alloc: Global) -> Day {
+        Day::of(rt, alloc, &AN_AIRING)
     }
 
-    fn of(alloc: Global, messages: &[Message]) -> Result<Day, Fail> {
-        let mut store = MemRows::new(alloc, &PLAN).ok().ok_or("a plan")?;
-        Day::told_of(alloc, &mut store, messages)
+    fn of(rt: &impl Abort, alloc: Global, messages: &[Message]) -> Day {
+        let mut store = MemRows::new(alloc, &PLAN).expect(rt, "a plan");
+        Day::told_of(rt, alloc, &mut store, messages)
     }
 
     // The messages as this store answers them, which has the plan alone.
     fn told_of<S: RowStore>(
+        rt: &impl Abort,
         alloc: Global,
         store: &mut S,
         messages: &[Message],
-    ) -> Result<Day, Fail> {
+    ) -> Day {
         let mut day = Day {
             messages: Vec::new(alloc),
             held: Vec::new(alloc),
         };
-        day.held.push(tables(alloc, store)?)?;
+        let first = tables(rt, alloc, store);
+        day.held.push(first).expect(rt, "memory");
         for message in messages {
-            day.add(alloc, store, message)?;
+            day.add(rt, alloc, store, message);
         }
-        Ok(day)
+        day
     }
 
     // A message, and what it leaves in the store.
     fn add<S: RowStore>(
         &mut self,
+        rt: &impl Abort,
         alloc: Global,
         store: &mut S,
         message: &Message,
-    ) -> Result<(), Fail> {
+    ) {
         let (channel, _, path, body, answer_body) = *message;
-        let asked = asked(alloc, "POST", channel, path, body)?;
-        let answered = answered(alloc, answer_body)?;
+        let asked = asked(rt, alloc, "POST", channel, path, body);
+        let answered = answered(rt, alloc, answer_body);
         let given = answer(alloc, store, asked.as_bytes());
-        held(given.bytes() == answered.as_bytes(), asked.as_str())?;
-        let before = self.held.last().ok_or("tables")?;
-        let after = tables(alloc, store)?;
+        held(rt, given.bytes() == answered.as_bytes(), asked.as_str());
+        let after = tables(rt, alloc, store);
+        self.may_leave(rt, message, asked.as_str(), &after);
+        self.held.push(after).expect(rt, "memory");
+        self.messages.push((asked, answered)).expect(rt, "memory");
+    }
+
+    // A message changed what it may of the tables that the last one left.
+    fn may_leave(&self, rt: &impl Abort, message: &Message, asked: &str, after: &Tables) {
+        let before = self.held.last().expect(rt, "tables");
         // What was refused, and what comes again, changes nothing.
-        let changes = !is_refusal(answer_body) && !self.was_asked(asked.as_str());
-        held(changes == (*before != after), asked.as_str())?;
-        leaves_others(message, before, &after)?;
-        self.held.push(after)?;
-        self.messages.push((asked, answered))?;
-        Ok(())
+        let changes = !is_refusal(message.4) && !self.was_asked(asked);
+        held(rt, changes == (before != after), asked);
+        leaves_others(rt, message, before, after);
     }
 
     fn was_asked(&self, message: &str) -> bool {
@@ -409,64 +417,65 @@ impl Day {
     /// Asks these messages, up to one that is answered 503. Each other one has its answer.
     pub fn ask<S: RowStore>(
         &self,
+        rt: &impl Abort,
         alloc: Global,
         store: &mut S,
         places: Range<usize>,
         stop: Stop,
-    ) -> Result<Reached, Fail> {
+    ) -> Reached {
         let end = places.end;
         for place in places {
             let Some((asked, answered)) = self.messages.get(place) else {
-                return Ok(Reached::at(place, stop));
+                return Reached::at(place, stop);
             };
             match answer(alloc, store, asked.as_bytes()) {
                 Answer::Given(bytes) => {
-                    held(bytes.as_slice() == answered.as_bytes(), stop)?;
+                    held(rt, bytes.as_slice() == answered.as_bytes(), stop);
                 }
                 Answer::Unavailable => {
-                    return Ok(Reached {
+                    return Reached {
                         stop,
                         acknowledged: place,
                         begun: place + 1,
-                    });
+                    };
                 }
             }
         }
-        Ok(Reached::at(end, stop))
+        Reached::at(end, stop)
     }
 
     // Whether the store holds what all messages left that had begun. If not, it holds what the acknowledged ones did.
     fn holds<S: RowStore>(
         &self,
+        rt: &impl Abort,
         alloc: Global,
         store: &mut S,
         reached: Reached,
-    ) -> Result<bool, Fail> {
-        let found = tables(alloc, store)?;
+    ) -> bool {
+        let found = tables(rt, alloc, store);
         let is_done = self.held.get(reached.begun) == Some(&found);
-        held(
-            is_done || self.held.get(reached.acknowledged) == Some(&found),
-            reached,
-        )?;
-        Ok(is_done)
+        let is_undone = self.held.get(reached.acknowledged) == Some(&found);
+        held(rt, is_done || is_undone, reached);
+        is_done
     }
 
     /// The store holds what one of these counts of messages left, and gives which; and the messages from there on leave
     /// what a run without a stop leaves.
     pub fn goes_on<S: RowStore>(
         &self,
+        rt: &impl Abort,
         alloc: Global,
         store: &mut S,
         reached: Reached,
-    ) -> Result<usize, Fail> {
-        let from = if self.holds(alloc, store, reached)? {
+    ) -> usize {
+        let from = if self.holds(rt, alloc, store, reached) {
             reached.begun
         } else {
             reached.acknowledged
         };
-        let rest = self.ask(alloc, store, from..self.len(), reached.stop)?;
-        held(rest.acknowledged == self.len(), reached)?;
-        self.holds(alloc, store, rest)?;
-        Ok(from)
+        let rest = self.ask(rt, alloc, store, from..self.len(), reached.stop);
+        held(rt, rest.acknowledged == self.len(), reached);
+        self.holds(rt, alloc, store, rest);
+        from
     }
 }

@@ -6,7 +6,7 @@ use crate::stops::{File, Stop};
 use sqlite::{Alter, Connection, Error, FileStore, Files, Options};
 use sqlite_disk::{Crash, Disk, Fuse, Memory};
 use std::alloc::Global;
-use std::test::Fail;
+use std::process::Abort;
 
 pub(crate) type Stopping = Fuse<Memory>;
 
@@ -29,35 +29,40 @@ impl Contents {
     }
 
     /// All that was written to these.
-    pub(crate) fn written_to(alloc: Global, files: &Files<Stopping>) -> Result<Contents, Fail> {
-        Ok(Contents {
-            log: files.log.inner().bytes().to_vec(alloc)?,
-            database: files.db.inner().bytes().to_vec(alloc)?,
-        })
+    pub(crate) fn written_to(rt: &impl Abort, alloc: Global, files: &Files<Stopping>) -> Contents {
+        Contents {
+            log: copied(rt, alloc, files.log.inner().bytes()),
+            database: copied(rt, alloc, files.db.inner().bytes()),
+        }
     }
 
     /// Opens a database in two files with this in them, up to a stop. Where it isn't opened, the files come back.
     pub(crate) fn open(
         &self,
+        rt: &impl Abort,
         alloc: Global,
         stop: Stop,
-    ) -> Result<Result<Database, Files<Stopping>>, Fail>
-        ensures { IfOk result (λ opened. IfOk opened (λ conn. conn.in_transaction ≡ false)) }
+    ) -> Result<Database, Files<Stopping>>
+        ensures { IfOk result (λ conn. conn.in_transaction ≡ false) }
     {
-        let log = file_of(alloc, &self.log)?;
-        let database = file_of(alloc, &self.database)?;
-        Ok(open_files(alloc, log, database, stop))
+        let log = file_of(rt, alloc, &self.log);
+        let database = file_of(rt, alloc, &self.database);
+        open_files(alloc, log, database, stop)
     }
 }
 
+fn copied(rt: &impl Abort, alloc: Global, bytes: &[u8]) -> Vec<u8> {
+    bytes.to_vec(alloc).expect(rt, "memory")
+}
+
 // A file of these bytes, synced.
-fn file_of(alloc: Global, bytes: &[u8]) -> Result<Memory, Fail>
-    ensures { IfOk result (λ file. IsTrue (memory_is_usable file)) }
+fn file_of(rt: &impl Abort, alloc: Global, bytes: &[u8]) -> Memory
+    ensures { IsTrue (memory_is_usable result) }
 {
     let mut file = Memory::new(alloc);
-    file.write_at(0, bytes)?;
-    file.sync()?;
-    Ok(file)
+    file.write_at(0, bytes).expect(rt, "memory");
+    file.sync().expect(rt, "a sync");
+    file
 }
 
 // The log is copied into the database file every twenty pages, so that both are written all the time.
@@ -116,41 +121,43 @@ pub fn number<S: Alter>(conn: &mut Connection<S>, sql: &str) -> Result<i64, Erro
 
 // What a stop may leave of a file: what was synced, as where the machine goes down, or all that was written, as where
 // the program does. Where these are the same it is one.
-fn left_of(alloc: Global, file: Stopping) -> Result<Vec<Vec<u8>>, Fail> {
+fn left_of(rt: &impl Abort, alloc: Global, file: Stopping) -> Vec<Vec<u8>> {
     let mut file = file;
     let mut left = Vec::new(alloc);
-    let written = file.inner().bytes().to_vec(alloc)?;
+    let written = copied(rt, alloc, file.inner().bytes());
     file.crash();
     if file.inner().bytes() != written.as_slice() {
-        left.push(file.inner().bytes().to_vec(alloc)?)?;
+        let synced = copied(rt, alloc, file.inner().bytes());
+        left.push(synced).expect(rt, "memory");
     }
-    left.push(written)?;
-    Ok(left)
+    left.push(written).expect(rt, "memory");
+    left
 }
 
 fn add_each(
+    rt: &impl Abort,
     alloc: Global,
     left: &mut Vec<Contents>,
     log: &[u8],
     databases: &[Vec<u8>],
-) -> Result<(), Fail> {
+) {
     for database in databases {
-        left.push(Contents {
-            log: log.to_vec(alloc)?,
-            database: database.as_slice().to_vec(alloc)?,
-        })?;
+        let contents = Contents {
+            log: copied(rt, alloc, log),
+            database: copied(rt, alloc, database),
+        };
+        left.push(contents).expect(rt, "memory");
     }
-    Ok(())
 }
 
 /// What a stop may leave: of each file by itself what was synced, or all that was written.
-pub(crate) fn left_by(alloc: Global, files: Files<Stopping>) -> Result<Vec<Contents>, Fail> {
+pub(crate) fn left_by(rt: &impl Abort, alloc: Global, files: Files<Stopping>) -> Vec<Contents> {
     let Files { log, db } = files;
-    let logs = left_of(alloc, log)?;
-    let databases = left_of(alloc, db)?;
+    let logs = left_of(rt, alloc, log);
+    let databases = left_of(rt, alloc, db);
     let mut left = Vec::new(alloc);
     for log in &logs {
-        add_each(alloc, &mut left, log, &databases)?;
+        add_each(rt, alloc, &mut left, log, &databases);
     }
-    Ok(left)
+    left
 }

@@ -8,7 +8,7 @@ use crate::stops::{File, Reached, Steps, Stop, Tally, are_stopped, finished, hel
 use channel_plan::Code;
 use sqlite::{Alter, Connection};
 use std::alloc::Global;
-use std::test::Fail;
+use std::process::Abort;
 
 // One step in new files: the centre is made.
 #[derive(Drop)]
@@ -28,75 +28,72 @@ impl Steps for Making<'_> {
 
     fn run<S: Alter>(
         &self,
+        rt: &impl Abort,
         alloc: Global,
         conn: Connection<S>,
         stop: Stop,
-    ) -> (Connection<S>, Result<Reached, Fail>) {
+    ) -> (Connection<S>, Reached) {
         let (conn, made) = make(alloc, conn);
-        (conn, reached_by_one(made, stop))
+        (conn, reached_by_one(rt, made, stop))
     }
 
     // An empty database, of which the centre may be made, or the centre with its whole plan.
     fn go_on<S: Alter>(
         &self,
+        rt: &impl Abort,
         alloc: Global,
         conn: Connection<S>,
         reached: Reached,
-    ) -> (Connection<S>, Result<usize, Fail>) {
+    ) -> (Connection<S>, usize) {
         let none = Reached::at(0, reached.stop);
-        let (conn, opened) = go_on(alloc, conn, self.day, none);
+        let (conn, opened) = go_on(rt, alloc, conn, self.day, none);
         match opened {
-            Ok(Ok(_)) => (conn, Ok(1)),
-            Ok(Err(fail)) => (conn, Err(fail)),
-            Err(Code::NotOurs) => made_anew(alloc, conn, self.day, none),
-            Err(code) => (conn, Err(Fail::from(code))),
+            Ok(_) => (conn, 1),
+            Err(code) => {
+                held(rt, code == Code::NotOurs, code);
+                (made_anew(rt, alloc, conn, self.day, none), 0)
+            }
         }
     }
 }
 
 // Makes a centre in a database that is empty. No step was done.
 fn made_anew<S: Alter>(
+    rt: &impl Abort,
     alloc: Global,
     conn: Connection<S>,
     day: &Day,
     reached: Reached,
-) -> (Connection<S>, Result<usize, Fail>)
+) -> Connection<S>
     requires { conn.in_transaction ≡ false }
 {
     let mut conn = conn;
     let objects = number(&mut conn, "SELECT count(*) FROM sqlite_master");
-    if let Err(fail) = held(objects == Ok(0), reached) {
-        return (conn, Err(fail));
-    }
+    held(rt, objects == Ok(0), reached);
     let (conn, made) = make(alloc, conn);
-    if let Err(code) = made {
-        return (conn, Err(Fail::from(code)));
-    }
-    let (conn, opened) = go_on(alloc, conn, day, reached);
-    match opened {
-        Ok(Ok(_)) => (conn, Ok(0)),
-        Ok(Err(fail)) => (conn, Err(fail)),
-        Err(code) => (conn, Err(Fail::from(code))),
-    }
+    made.expect(rt, "a centre");
+    let (conn, opened) = go_on(rt, alloc, conn, day, reached);
+    opened.expect(rt, "tables");
+    conn
 }
 
 /// The files of the centre before the first message.
-pub(crate) fn new_centre(alloc: Global, day: &Day) -> Result<Contents, Fail> {
+pub(crate) fn new_centre(rt: &impl Abort, alloc: Global, day: &Day) -> Contents {
     let steps = Making {
         day,
         start: Contents::none(alloc),
     };
-    let (contents, reached) = finished(alloc, &steps)?;
-    held(reached.acknowledged == 1, reached)?;
-    Ok(contents)
+    let (contents, reached) = finished(rt, alloc, &steps);
+    held(rt, reached.acknowledged == 1, reached);
+    contents
 }
 
 /// Stops a file at each call while a centre is made in new files.
-pub fn making_is_stopped(alloc: Global, file: File) -> Result<Tally, Fail> {
-    let day = Day::told(alloc)?;
+pub fn making_is_stopped(rt: &impl Abort, alloc: Global, file: File) -> Tally {
+    let day = Day::told(rt, alloc);
     let steps = Making {
         day: &day,
         start: Contents::none(alloc),
     };
-    are_stopped(alloc, &steps, file)
+    are_stopped(rt, alloc, &steps, file)
 }

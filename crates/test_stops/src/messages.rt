@@ -7,7 +7,7 @@ use crate::stops::{File, Reached, Steps, Stop, Tally, are_stopped, held};
 use channel_plan::Code;
 use sqlite::{Alter, Connection};
 use std::alloc::Global;
-use std::test::Fail;
+use std::process::Abort;
 
 /// Each of the first messages of a day is a step, in a new centre.
 #[derive(Drop)]
@@ -30,47 +30,45 @@ impl Steps for Messages<'_> {
 
     fn run<S: Alter>(
         &self,
+        rt: &impl Abort,
         alloc: Global,
         conn: Connection<S>,
         stop: Stop,
-    ) -> (Connection<S>, Result<Reached, Fail>) {
-        let (mut conn, asked) = ask(alloc, conn, self.day, 0..self.count, stop);
+    ) -> (Connection<S>, Reached) {
+        let (mut conn, asked) = ask(rt, alloc, conn, self.day, 0..self.count, stop);
         match asked {
-            Ok(Ok(reached)) => {
+            Ok(reached) => {
                 let done = run_statements(&mut conn, self.last);
                 let is_done = done.is_ok() || reached.acknowledged < self.count;
-                match held(is_done, stop) {
-                    Ok(()) => (conn, Ok(reached)),
-                    Err(fail) => (conn, Err(fail)),
-                }
+                held(rt, is_done, stop);
+                (conn, reached)
             }
-            Ok(Err(fail)) => (conn, Err(fail)),
-            Err(Code::Unavailable) => (conn, Ok(Reached::at(0, stop))),
-            Err(code) => (conn, Err(Fail::from(code))),
+            Err(code) => {
+                held(rt, code == Code::Unavailable, code);
+                (conn, Reached::at(0, stop))
+            }
         }
     }
 
     fn go_on<S: Alter>(
         &self,
+        rt: &impl Abort,
         alloc: Global,
         conn: Connection<S>,
         reached: Reached,
-    ) -> (Connection<S>, Result<usize, Fail>) {
-        let (conn, opened) = go_on(alloc, conn, self.day, reached);
-        match opened {
-            Ok(found) => (conn, found),
-            Err(code) => (conn, Err(Fail::from(code))),
-        }
+    ) -> (Connection<S>, usize) {
+        let (conn, opened) = go_on(rt, alloc, conn, self.day, reached);
+        (conn, opened.expect(rt, "tables"))
     }
 }
 
 /// Stops a file at each call while the messages of a day are answered in a new centre.
-pub fn messages_are_stopped(alloc: Global, day: &Day, file: File) -> Result<Tally, Fail> {
+pub fn messages_are_stopped(rt: &impl Abort, alloc: Global, day: &Day, file: File) -> Tally {
     let steps = Messages {
         day,
-        centre: new_centre(alloc, day)?,
+        centre: new_centre(rt, alloc, day),
         count: day.len(),
         last: "",
     };
-    are_stopped(alloc, &steps, file)
+    are_stopped(rt, alloc, &steps, file)
 }

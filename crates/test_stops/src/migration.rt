@@ -9,26 +9,26 @@ use crate::messages::Messages;
 use crate::stops::{File, Reached, Steps, Stop, Tally, are_stopped, finished, held};
 use sqlite::{Alter, Connection};
 use std::alloc::Global;
-use std::test::Fail;
+use std::process::Abort;
 
 // The tables of version 1 are those of version 2 without that of windows.
 const AS_FIRST: &str = "DROP TABLE span; UPDATE office SET version = 1";
 
 // The files of a centre of version 1, after the messages before the first window.
-fn first_version(alloc: Global, day: &Day) -> Result<Contents, Fail> {
+fn first_version(rt: &impl Abort, alloc: Global, day: &Day) -> Contents {
     let steps = Messages {
         day,
-        centre: new_centre(alloc, day)?,
+        centre: new_centre(rt, alloc, day),
         count: WITHOUT_WINDOWS,
         last: AS_FIRST,
     };
-    let (contents, reached) = finished(alloc, &steps)?;
-    held(reached.acknowledged == WITHOUT_WINDOWS, reached)?;
-    Ok(contents)
+    let (contents, reached) = finished(rt, alloc, &steps);
+    held(rt, reached.acknowledged == WITHOUT_WINDOWS, reached);
+    contents
 }
 
 // Whether these are tables of version 2. If not, they are those of version 1.
-fn is_second<S: Alter>(conn: &mut Connection<S>, stop: Stop) -> Result<bool, Fail>
+fn is_second<S: Alter>(rt: &impl Abort, conn: &mut Connection<S>, stop: Stop) -> bool
     ensures { conn.old.in_transaction ≡ false → conn.new.in_transaction ≡ false }
 {
     let version = number(conn, "SELECT version FROM office");
@@ -38,11 +38,9 @@ fn is_second<S: Alter>(conn: &mut Connection<S>, stop: Stop) -> Result<bool, Fai
     );
     let is_second = version == Ok(2);
     let is_first = version == Ok(1);
-    held(
-        (is_second && tables == Ok(1)) || (is_first && tables == Ok(0)),
-        stop,
-    )?;
-    Ok(is_second)
+    let is_either = (is_second && tables == Ok(1)) || (is_first && tables == Ok(0));
+    held(rt, is_either, stop);
+    is_second
 }
 
 // One step: the tables of version 1 are opened.
@@ -63,47 +61,42 @@ impl Steps for Migration<'_> {
 
     fn run<S: Alter>(
         &self,
+        rt: &impl Abort,
         alloc: Global,
         conn: Connection<S>,
         stop: Stop,
-    ) -> (Connection<S>, Result<Reached, Fail>) {
-        let (conn, opened) = ask(alloc, conn, self.day, 0..0, stop);
+    ) -> (Connection<S>, Reached) {
+        let (conn, opened) = ask(rt, alloc, conn, self.day, 0..0, stop);
         let opened = match opened {
-            Ok(Ok(_)) => Ok(()),
-            Ok(Err(fail)) => return (conn, Err(fail)),
+            Ok(_) => Ok(()),
             Err(code) => Err(code),
         };
-        (conn, reached_by_one(opened, stop))
+        (conn, reached_by_one(rt, opened, stop))
     }
 
     // A centre of either version, which opens and has all that it had.
     fn go_on<S: Alter>(
         &self,
+        rt: &impl Abort,
         alloc: Global,
         conn: Connection<S>,
         reached: Reached,
-    ) -> (Connection<S>, Result<usize, Fail>) {
+    ) -> (Connection<S>, usize) {
         let mut conn = conn;
-        let is_second = match is_second(&mut conn, reached.stop) {
-            Ok(is_second) => is_second,
-            Err(fail) => return (conn, Err(fail)),
-        };
+        let is_second = is_second(rt, &mut conn, reached.stop);
         let asked = Reached::at(WITHOUT_WINDOWS, reached.stop);
-        let (conn, opened) = go_on(alloc, conn, self.day, asked);
-        match opened {
-            Ok(Ok(_)) => (conn, Ok(usize::from(is_second))),
-            Ok(Err(fail)) => (conn, Err(fail)),
-            Err(code) => (conn, Err(Fail::from(code))),
-        }
+        let (conn, opened) = go_on(rt, alloc, conn, self.day, asked);
+        opened.expect(rt, "tables");
+        (conn, usize::from(is_second))
     }
 }
 
 /// Stops a file at each call while tables of version 1 become those of version 2.
-pub fn migration_is_stopped(alloc: Global, file: File) -> Result<Tally, Fail> {
-    let day = Day::told(alloc)?;
+pub fn migration_is_stopped(rt: &impl Abort, alloc: Global, file: File) -> Tally {
+    let day = Day::told(rt, alloc);
     let steps = Migration {
         day: &day,
-        first: first_version(alloc, &day)?,
+        first: first_version(rt, alloc, &day),
     };
-    are_stopped(alloc, &steps, file)
+    are_stopped(rt, alloc, &steps, file)
 }

@@ -1,11 +1,11 @@
 //! A stop at each call on a file, of steps over a database.
-ghost use Rattle.std.specs.Prelude.{◌≡◌, true, false, OnOk};
+ghost use Rattle.std.specs.Prelude.{◌≡◌, true, false};
 
 use crate::files::{Contents, Stopping, files_of, left_by, store_of};
 use sqlite::{Alter, Connection, Files};
 use std::alloc::Global;
 use std::fmt::Debug;
-use std::test::Fail;
+use std::process::Abort;
 
 #[derive(Clone, Copy, Debug)]
 pub enum File {
@@ -47,14 +47,10 @@ impl Reached {
 }
 
 /// Fails where this doesn't hold, and says at what.
-pub fn held<D: Debug + Drop>(holds: bool, at: D) -> Result<(), Fail>
-    ensures { OnOk result (holds ≡ true) }
+pub fn held<D: Debug + Drop>(rt: &impl Abort, holds: bool, at: D)
+    ensures { holds ≡ true }
 {
-    if holds {
-        Ok(())
-    } else {
-        Err(Fail::new(format_args!("{at:?}")))
-    }
+    assert!(rt; holds, "{at:?}");
 }
 
 /// Steps over a database.
@@ -67,78 +63,103 @@ pub trait Steps {
     /// Does them, up to a stop. Gives how far it came.
     fn run<S: Alter>(
         &self,
+        rt: &impl Abort,
         alloc: Global,
         conn: Connection<S>,
         stop: Stop,
-    ) -> (Connection<S>, Result<Reached, Fail>)
+    ) -> (Connection<S>, Reached)
         requires { conn.in_transaction ≡ false };
 
     /// What a stop left is what some of the steps left, and more can be done with it. Gives how many.
     fn go_on<S: Alter>(
         &self,
+        rt: &impl Abort,
         alloc: Global,
         conn: Connection<S>,
         reached: Reached,
-    ) -> (Connection<S>, Result<usize, Fail>)
+    ) -> (Connection<S>, usize)
         requires { conn.in_transaction ≡ false };
 }
 
-// Does the steps, up to a stop. Gives the files, and how far it came.
-fn run<T: Steps>(alloc: Global, steps: &T, stop: Stop) -> Result<(Files<Stopping>, Reached), Fail> {
-    match steps.start().open(alloc, stop)? {
-        Ok(conn) => {
-            let (store, reached) = run_in_store(alloc, steps, conn, stop);
-            let files = files_of(store);
-            Ok((files, reached?))
+// What is done with the database in some files: the steps, up to a stop, or more after one.
+#[derive(Clone, Copy)]
+enum Task {
+    Run(Stop),
+    GoOn(Reached),
+}
+
+impl Task {
+    fn stop(self) -> Stop {
+        match self {
+            Task::Run(stop) => stop,
+            Task::GoOn(_) => Stop::NEVER,
         }
-        Err(files) => Ok((files, Reached::at(0, stop))),
     }
 }
 
-/// Does the steps where nothing stops. Gives what is in the files then, and how far it came.
-pub fn finished<T: Steps>(alloc: Global, steps: &T) -> Result<(Contents, Reached), Fail> {
-    let (files, reached) = run(alloc, steps, Stop::NEVER)?;
-    Ok((Contents::written_to(alloc, &files)?, reached))
-}
-
-fn run_in_store<T: Steps, S: Alter + Drop>(
+// Does the steps, up to a stop. Gives the files, and how far it came.
+fn run<T: Steps>(
+    rt: &impl Abort,
     alloc: Global,
     steps: &T,
-    conn: Connection<S>,
     stop: Stop,
-) -> (S, Result<Reached, Fail>)
-    requires { conn.in_transaction ≡ false }
-{
-    let (conn, reached) = steps.run(alloc, conn, stop);
-    (store_of(conn), reached)
+) -> (Files<Stopping>, Reached) {
+    let (files, reached) = done_in_files(rt, alloc, steps, steps.start(), Task::Run(stop));
+    (files, reached.unwrap_or(Reached::at(0, stop)))
+}
+
+/// Does the steps where nothing stops. Gives what is in the files then, and how far it came.
+pub fn finished<T: Steps>(rt: &impl Abort, alloc: Global, steps: &T) -> (Contents, Reached) {
+    let (files, reached) = run(rt, alloc, steps, Stop::NEVER);
+    (Contents::written_to(rt, alloc, &files), reached)
 }
 
 fn goes_on<T: Steps>(
+    rt: &impl Abort,
     alloc: Global,
     steps: &T,
     left: &Contents,
     reached: Reached,
-) -> Result<usize, Fail> {
-    match left.open(alloc, Stop::NEVER)? {
+) -> usize {
+    let (_files, found) = done_in_files(rt, alloc, steps, left, Task::GoOn(reached));
+    found.expect(rt, "files that open").acknowledged
+}
+
+// Files with this in them, and how far the task came where they open. Only this names their store in a call for any
+// store, since each function that does takes long to prove.
+fn done_in_files<T: Steps>(
+    rt: &impl Abort,
+    alloc: Global,
+    steps: &T,
+    contents: &Contents,
+    task: Task,
+) -> (Files<Stopping>, Option<Reached>) {
+    match contents.open(rt, alloc, task.stop()) {
         Ok(conn) => {
-            let (store, found) = go_on_in_store(alloc, steps, conn, reached);
-            let _files = files_of(store);
-            found
+            let (store, reached) = done_in_store(rt, alloc, steps, conn, task);
+            (files_of(store), Some(reached))
         }
-        Err(_files) => Err(Fail::from("files that open")),
+        Err(files) => (files, None),
     }
 }
 
-fn go_on_in_store<T: Steps, S: Alter + Drop>(
+fn done_in_store<T: Steps, S: Alter + Drop>(
+    rt: &impl Abort,
     alloc: Global,
     steps: &T,
     conn: Connection<S>,
-    reached: Reached,
-) -> (S, Result<usize, Fail>)
+    task: Task,
+) -> (S, Reached)
     requires { conn.in_transaction ≡ false }
 {
-    let (conn, found) = steps.go_on(alloc, conn, reached);
-    (store_of(conn), found)
+    let (conn, reached) = match task {
+        Task::Run(stop) => steps.run(rt, alloc, conn, stop),
+        Task::GoOn(reached) => {
+            let (conn, found) = steps.go_on(rt, alloc, conn, reached);
+            (conn, Reached::at(found, reached.stop))
+        }
+    };
+    (store_of(conn), reached)
 }
 
 /// How many stops were tried, and how often the step that was running was found done after one, or undone.
@@ -164,40 +185,38 @@ impl Tally {
 
 // All that may be left goes on: the steps that were acknowledged are in it, and none that hadn't begun.
 fn each_goes_on<T: Steps>(
+    rt: &impl Abort,
     alloc: Global,
     steps: &T,
     files: Files<Stopping>,
     reached: Reached,
     tally: &mut Tally,
-) -> Result<(), Fail> {
-    for left in &left_by(alloc, files)? {
-        let found = goes_on(alloc, steps, left, reached)?;
-        held(
-            reached.acknowledged <= found && found <= reached.begun,
-            reached,
-        )?;
+) {
+    for left in &left_by(rt, alloc, files) {
+        let found = goes_on(rt, alloc, steps, left, reached);
+        let is_reached = reached.acknowledged <= found && found <= reached.begun;
+        held(rt, is_reached, reached);
         tally.count(reached, found);
     }
-    Ok(())
 }
 
 // No steps make so many calls on a file.
 const CALLS: u64 = 10_000;
 
 /// Stops the file at each call in turn, until there are no more.
-pub fn are_stopped<T: Steps>(alloc: Global, steps: &T, file: File) -> Result<Tally, Fail> {
+pub fn are_stopped<T: Steps>(rt: &impl Abort, alloc: Global, steps: &T, file: File) -> Tally {
     let mut tally = Tally {
         stops: 0,
         done: 0,
         undone: 0,
     };
     for calls in 0..CALLS {
-        let (files, reached) = run(alloc, steps, Stop { file, calls })?;
-        each_goes_on(alloc, steps, files, reached, &mut tally)?;
+        let (files, reached) = run(rt, alloc, steps, Stop { file, calls });
+        each_goes_on(rt, alloc, steps, files, reached, &mut tally);
         if reached.acknowledged == steps.count() {
-            return Ok(tally);
+            return tally;
         }
         tally.stops = tally.stops.saturating_add(1);
     }
-    Err(Fail::from("a run without a stop"))
+    panic!(rt; "a run without a stop")
 }

@@ -3,7 +3,7 @@ use asrun_match::{AiredDay, Run, reconcile, take_batch};
 use channel_plan::{PlanRow, Refusal};
 use playlist_core::{DayPlan, DayState, EditKind, Item, Source};
 use std::alloc::Global;
-use std::test::Fail;
+use std::process::Abort;
 use timecode::day_frames;
 
 // A day that is planned, and what was aired of it.
@@ -16,41 +16,42 @@ pub(crate) struct Airing {
 
 impl Airing {
     pub(crate) fn of(
+        rt: &impl Abort,
         alloc: Global,
         plan: PlanRow,
         state: DayState,
         items: Vec<Item>,
-    ) -> Result<Airing, Fail> {
-        Ok(Airing {
+    ) -> Airing {
+        Airing {
             plan,
-            day: DayPlan::from_rows(1, &plan, state, items)
-                .ok()
-                .ok_or("a day")?,
-            aired: AiredDay::from_rows(alloc, &plan, Vec::new(alloc))
-                .ok()
-                .ok_or("a day of which nothing is aired")?,
-        })
+            day: DayPlan::from_rows(1, &plan, state, items).expect(rt, "a day"),
+            aired: AiredDay::from_rows(alloc, &plan, Vec::new(alloc)).expect(
+                rt,
+                "a day of which nothing is aired",
+            ),
+        }
     }
 
     pub(crate) fn take(
         &mut self,
+        rt: &impl Abort,
         alloc: Global,
         number: u32,
         text: &[u8],
-    ) -> Result<Result<u32, Refusal>, Fail> {
+    ) -> Result<u32, Refusal> {
         let frames = day_frames(self.plan.rate);
         if text.len() > 1_000_000 || self.plan.start >= frames || self.aired.frames() != frames {
-            return Err("a batch, a start and a day of the rate")?;
+            panic!(rt; "a batch, a start and a day of the rate");
         }
-        Ok(take_batch(alloc, &mut self.aired, &self.day, &self.plan, number, text))
+        take_batch(alloc, &mut self.aired, &self.day, &self.plan, number, text)
     }
 
-    pub(crate) fn runs(&self, alloc: Global) -> Result<Vec<Run>, Fail> {
+    pub(crate) fn runs(&self, rt: &impl Abort, alloc: Global) -> Vec<Run> {
         match self.day.state() {
             DayState::Sealed if self.day.frames() == self.aired.frames() => {
-                Ok(reconcile(alloc, &self.day, &self.aired)?)
+                reconcile(alloc, &self.day, &self.aired).expect(rt, "memory")
             }
-            _ => Err("a sealed day of so many frames")?,
+            _ => panic!(rt; "a sealed day of so many frames"),
         }
     }
 }

@@ -5,7 +5,7 @@ use asrun_match::{Run, Status};
 use channel_plan::{At, Code, Refusal};
 use playlist_core::{DayState, Item, Source, label_at};
 use std::alloc::Global;
-use std::test::Fail;
+use std::process::Abort;
 use timecode::{Rate, to_timecode};
 
 // So many frames of a day are planned in short items, and aired.
@@ -22,8 +22,8 @@ fn below(random: u32, bound: u32) -> u32 {
 }
 
 // The source of a number from 0 to 4.
-fn source(which: u32) -> Result<Source, Fail> {
-    Ok(Source::read(reel(which.min(4)).as_bytes()).ok_or("a source")?)
+fn source(rt: &impl Abort, which: u32) -> Source {
+    Source::read(reel(which.min(4)).as_bytes()).expect(rt, "a source")
 }
 
 // The reel of a number: those of the sources, and one that names none.
@@ -122,7 +122,7 @@ pub(crate) fn are_longest(runs: &[Run]) -> bool {
 }
 
 // Short items, and black behind them.
-fn plan_of(alloc: Global, k: u32) -> Result<Vec<Stretch>, Fail> {
+fn plan_of(rt: &impl Abort, alloc: Global, k: u32) -> Vec<Stretch> {
     let mut stretches = Vec::new(alloc);
     let mut random = next(next(k));
     let mut position = 0;
@@ -133,38 +133,41 @@ fn plan_of(alloc: Global, k: u32) -> Result<Vec<Stretch>, Fail> {
         let which = below(random, 5);
         random = next(random);
         let first = if which < 2 { 0 } else { below(random, 500) };
-        stretches.push(Stretch {
+        let short = Stretch {
             position,
             frames,
             which,
             first,
-        })?;
+        };
+        stretches.push(short).expect(rt, "memory");
         position = position.saturating_add(frames);
     }
-    stretches.push(Stretch {
+    let behind = Stretch {
         position,
         frames: DAY.saturating_sub(position),
         which: 0,
         first: 0,
-    })?;
-    Ok(stretches)
+    };
+    stretches.push(behind).expect(rt, "memory");
+    stretches
 }
 
-pub(crate) fn items_of(alloc: Global, planned: &[Stretch]) -> Result<Vec<Item>, Fail> {
+pub(crate) fn items_of(rt: &impl Abort, alloc: Global, planned: &[Stretch]) -> Vec<Item> {
     let mut items = Vec::new(alloc);
     let mut number = 0u16;
     for s in planned {
         number = number.wrapping_add(1);
-        items.push(Item {
+        let item = Item {
             src_first: s.first,
-            ..item(number, s.position, s.frames, source(s.which)?)
-        })?;
+            ..item(number, s.position, s.frames, source(rt, s.which))
+        };
+        items.push(item).expect(rt, "memory");
     }
-    Ok(items)
+    items
 }
 
 // Rows of a batch: most begin as what is planned there.
-fn rows_of(alloc: Global, planned: &[Stretch], seed: u32) -> Result<Vec<Stretch>, Fail> {
+fn rows_of(rt: &impl Abort, alloc: Global, planned: &[Stretch], seed: u32) -> Vec<Stretch> {
     let mut rows = Vec::new(alloc);
     let mut random = next(seed);
     for _ in 0..2 {
@@ -181,74 +184,79 @@ fn rows_of(alloc: Global, planned: &[Stretch], seed: u32) -> Result<Vec<Stretch>
                 first = plan.shown(position);
             }
         }
-        rows.push(Stretch {
+        let row = Stretch {
             position,
             frames,
             which,
             first,
-        })?;
+        };
+        rows.push(row).expect(rt, "memory");
     }
-    Ok(rows)
+    rows
 }
 
-fn row_text(alloc: Global, row: &Stretch) -> Result<String, Fail> {
+fn row_text(rt: &impl Abort, alloc: Global, row: &Stretch) -> String {
     let at = label_at(&AT_25, row.position);
     let frames = row.frames;
     let reel = reel(row.which);
-    let first = to_timecode(row.first, Rate::F25).ok().ok_or("a label")?;
-    Ok(format!(in alloc; "{at},{frames},{reel},{first}\n")?)
+    let first = to_timecode(row.first, Rate::F25).expect(rt, "a label");
+    format!(in alloc; "{at},{frames},{reel},{first}\n").expect(rt, "memory")
 }
 
-fn batch_text(alloc: Global, rows: &[Stretch]) -> Result<Vec<u8>, Fail> {
+fn batch_text(rt: &impl Abort, alloc: Global, rows: &[Stretch]) -> Vec<u8> {
     let mut text = Vec::new(alloc);
     for row in rows {
-        text.extend_from_slice(row_text(alloc, row)?.as_bytes())?;
+        let line = row_text(rt, alloc, row);
+        text.extend_from_slice(line.as_bytes()).expect(rt, "memory");
     }
-    Ok(text)
+    text
 }
 
 // What a day of which some rows are aired answers to rows: their frames, or the first frame aired twice. The rows that
 // are taken are added.
 fn expected(
+    rt: &impl Abort,
     alloc: Global,
     aired: &mut Vec<Stretch>,
     rows: &[Stretch],
-) -> Result<Result<u32, Refusal>, Fail> {
-    let mut after = Vec::from_slice(alloc, aired)?;
+) -> Result<u32, Refusal> {
+    let mut after = Vec::from_slice(alloc, aired).expect(rt, "memory");
     let mut frames = 0u32;
     for row in rows {
         if let Some(frame) = first_covered(&after, row) {
             let at = At::Place(label_at(&AT_25, frame));
-            return Ok(refused_at(Code::AiredTwice, at));
+            return refused_at(Code::AiredTwice, at);
         }
-        after.push(*row)?;
+        after.push(*row).expect(rt, "memory");
         frames = frames.saturating_add(row.frames);
     }
     *aired = after;
-    Ok(Ok(frames))
+    Ok(frames)
 }
 
 // Takes batches, and says whether each was answered as by the walk.
 fn takes_alike(
+    rt: &impl Abort,
     alloc: Global,
     airing: &mut Airing,
     planned: &[Stretch],
     aired: &mut Vec<Stretch>,
     seed: u32,
-) -> Result<bool, Fail> {
+) -> bool {
     let mut number = 1u32;
     for k in 0..7u32 {
-        let rows = rows_of(alloc, planned, seed.wrapping_mul(7).wrapping_add(k))?;
-        let wanted = expected(alloc, aired, &rows)?;
-        let text = batch_text(alloc, &rows)?;
-        if airing.take(alloc, number, &text)? != wanted {
-            return Ok(false);
+        let seed = seed.wrapping_mul(7).wrapping_add(k);
+        let rows = rows_of(rt, alloc, planned, seed);
+        let wanted = expected(rt, alloc, aired, &rows);
+        let text = batch_text(rt, alloc, &rows);
+        if airing.take(rt, alloc, number, &text) != wanted {
+            return false;
         }
         if wanted.is_ok() {
             number = number.wrapping_add(1);
         }
     }
-    Ok(true)
+    true
 }
 
 // Whether the runs say of each frame what the walk does, and of all behind the last that is aired that they are missed.
@@ -265,20 +273,19 @@ fn runs_alike(runs: &[Run], planned: &[Stretch], aired: &[Stretch]) -> bool {
     }
 }
 
-fn goes_alike(alloc: Global, k: u32) -> Result<bool, Fail> {
-    let planned = plan_of(alloc, k)?;
-    let items = items_of(alloc, &planned)?;
-    let mut airing = Airing::of(alloc, AT_25, DayState::Sealed, items)?;
+fn goes_alike(rt: &impl Abort, alloc: Global, k: u32) -> bool {
+    let planned = plan_of(rt, alloc, k);
+    let items = items_of(rt, alloc, &planned);
+    let mut airing = Airing::of(rt, alloc, AT_25, DayState::Sealed, items);
     let mut aired = Vec::new(alloc);
-    let taken = takes_alike(alloc, &mut airing, &planned, &mut aired, k)?;
-    let runs = airing.runs(alloc)?;
-    Ok(taken && are_longest(&runs) && runs_alike(&runs, &planned, &aired))
+    let taken = takes_alike(rt, alloc, &mut airing, &planned, &mut aired, k);
+    let runs = airing.runs(rt, alloc);
+    taken && are_longest(&runs) && runs_alike(&runs, &planned, &aired)
 }
 
 #[test]
-fn fifty_days_are_aired_as_walks_over_their_frames(rt: HostRuntime) -> Result<(), Fail> {
+fn fifty_days_are_aired_as_walks_over_their_frames(rt: HostRuntime) {
     for k in 0..50 {
-        assert!(rt; goes_alike(rt.alloc(), k)?, "day {k}");
+        assert!(rt; goes_alike(&rt, rt.alloc(), k), "day {k}");
     }
-    Ok(())
 }

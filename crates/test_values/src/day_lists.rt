@@ -3,7 +3,7 @@ use crate::days::{AT_25, Channel};
 use playlist_core::{DayPlan, EditKind, NewItem, Source};
 use playlist_edl::Imported;
 use std::alloc::Global;
-use std::test::Fail;
+use std::process::Abort;
 
 // The kth of the items of a full day: cuts, dissolves and wipes of four sources, with a frame free behind each seventh.
 fn item_of_long_day(k: u32) -> Option<NewItem> {
@@ -28,29 +28,39 @@ fn item_of_long_day(k: u32) -> Option<NewItem> {
     })
 }
 
-fn long_day(channel: &Channel, alloc: Global) -> Result<DayPlan, Fail> {
-    let mut day = channel.open_day(alloc)?;
+fn long_day(rt: &impl Abort, channel: &Channel, alloc: Global) -> DayPlan {
+    let mut day = channel.open_day(rt, alloc);
     for k in 0..999 {
-        let new = item_of_long_day(k).ok_or("an item")?;
-        channel.adds(&mut day, new, k + 1)?;
+        let new = item_of_long_day(k).expect(rt, "an item");
+        channel.adds(rt, &mut day, new, k + 1);
     }
-    Ok(day)
+    day
 }
 
-#[test]
-fn a_long_day_is_exported_and_imported_again(rt: HostRuntime) -> Result<(), Fail> {
-    let channel = Channel::of(rt.alloc(), AT_25)?;
-    let day = long_day(&channel, rt.alloc())?;
-    let text = channel.export(&day, rt.alloc())?.ok().ok_or("a list")?;
-    let mut again = channel.open_day(rt.alloc())?;
-    let imported = channel.import(&mut again, rt.alloc(), text.as_bytes(), false)?;
+// A day into which the list of the long one is imported.
+fn imported(rt: &impl Abort, channel: &Channel, alloc: Global, text: &str) -> DayPlan {
+    let mut day = channel.open_day(rt, alloc);
     let all = Imported {
         items: 999,
         skipped: 666,
     };
-    same(&rt, imported, Ok(all));
+    let answer = channel.import(rt, &mut day, alloc, text.as_bytes(), false);
+    same(rt, answer, Ok(all));
+    day
+}
+
+// It is exported, and its list imported into another day.
+fn is_imported_again(rt: &impl Abort, channel: &Channel, alloc: Global, day: &DayPlan) {
+    let text = channel.export(rt, day, alloc).expect(rt, "a list");
+    let again = imported(rt, channel, alloc, text.as_str());
     assert!(rt; again.items() == day.items());
-    let second = channel.export(&again, rt.alloc())?.ok().ok_or("a list")?;
+    let second = channel.export(rt, &again, alloc).expect(rt, "a list");
     assert!(rt; second.as_str() == text.as_str());
-    Ok(())
+}
+
+#[test]
+fn a_long_day_is_exported_and_imported_again(rt: HostRuntime) {
+    let channel = Channel::of(&rt, rt.alloc(), AT_25);
+    let day = long_day(&rt, &channel, rt.alloc());
+    is_imported_again(&rt, &channel, rt.alloc(), &day);
 }

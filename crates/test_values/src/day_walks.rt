@@ -4,7 +4,7 @@ use channel_plan::{At, Code, PlanRow, Refusal};
 use grant_core::Grant;
 use playlist_core::{DayPlan, Item, MAX_ITEMS, NewItem, OfferNumber, Owner, Source, label_at};
 use std::alloc::Global;
-use std::test::Fail;
+use std::process::Abort;
 use timecode::{Rate, day_frames};
 use vault_core::{Offer, Window};
 
@@ -67,10 +67,10 @@ fn rate_of(k: u32, number: u16) -> Rate {
 }
 
 // These clips, each as long as a day.
-fn grants_of(alloc: Global, k: u32) -> Result<Vec<Grant>, Fail> {
+fn grants_of(rt: &impl Abort, alloc: Global, k: u32) -> Vec<Grant> {
     let mut grants = Vec::new(alloc);
     for number in 1..8 {
-        let lent = grant()?;
+        let lent = grant(rt);
         let rate = rate_of(k, number);
         let offer = Offer {
             n: number,
@@ -82,12 +82,10 @@ fn grants_of(alloc: Global, k: u32) -> Result<Vec<Grant>, Fail> {
             withdrawn: number == 5,
             ..lent.offer
         };
-        grants.push(Grant {
-            owner: owner_of(number),
-            offer,
-        })?;
+        let owner = owner_of(number);
+        grants.push(Grant { owner, offer }).expect(rt, "memory");
     }
-    Ok(grants)
+    grants
 }
 
 // So many frames of black, or of the lent clip of a number above 0.
@@ -254,22 +252,22 @@ struct Walked {
 }
 
 impl Walked {
-    fn of(alloc: Global, k: u32) -> Result<Walked, Fail> {
+    fn of(rt: &impl Abort, alloc: Global, k: u32) -> Walked {
         let plan = plan_of(k);
-        let channel = Channel::borrowing(alloc, plan, grants_of(alloc, k)?)?;
-        let day = channel.open_day_numbered(alloc, number_of(k))?;
-        let frames = vec![in alloc; 0u16; day_frames(plan.rate) as usize]?;
-        Ok(Walked {
+        let channel = Channel::borrowing(rt, alloc, plan, grants_of(rt, alloc, k));
+        let day = channel.open_day_numbered(rt, alloc, number_of(k));
+        let frames = vec![in alloc; 0u16; day_frames(plan.rate) as usize];
+        Walked {
             channel,
             day,
-            frames,
+            frames: frames.expect(rt, "memory"),
             taken: [false; NUMBERS],
             borrowed: [false; NUMBERS],
-        })
+        }
     }
 
     // Adds black, or the lent clip of a number above 0, and says whether the day answered as the walk.
-    fn adds_alike(&mut self, position: u32, length: u32, lent: u16) -> Result<bool, Fail> {
+    fn adds_alike(&mut self, rt: &impl Abort, position: u32, length: u32, lent: u16) -> bool {
         let plan = self.channel.plan;
         let fault = if lent == 0 {
             None
@@ -277,15 +275,14 @@ impl Walked {
             lent_fault(self.channel.lent.grants(), &plan, self.day.number(), lent)
         };
         let wanted = expected(&plan, &self.frames, &self.taken, position, length, fault);
-        let answer = self
-            .channel
-            .add(&mut self.day, new_item(position, length, lent))?;
+        let new = new_item(position, length, lent);
+        let answer = self.channel.add(rt, &mut self.day, new);
         if let Ok(number) = wanted {
             let end = u64::from(position) + u64::from(length);
             paint(&mut self.frames, position as usize, end as usize, number);
             self.mark(number, true, lent != 0);
         }
-        Ok(answer == wanted)
+        answer == wanted
     }
 
     fn removes_alike(&mut self, number: u16) -> bool {
@@ -326,55 +323,65 @@ impl Walked {
         None
     }
 
+    // What rows that lend for other days answer to sealing.
+    fn sealed_for_other_days(
+        &mut self,
+        rt: &impl Abort,
+        alloc: Global,
+        withdrawn: bool,
+    ) -> Result<u32, Refusal> {
+        let number = self.day.number();
+        let channel = for_other_days(rt, alloc, &self.channel, number, withdrawn);
+        channel.seal(&mut self.day)
+    }
+
     // Whether a day that shows a lent clip isn't sealed by rows that lend it for other days, and says so of a
     // withdrawal before that.
-    fn stays_open(&mut self, alloc: Global) -> Result<bool, Fail> {
+    fn stays_open(&mut self, rt: &impl Abort, alloc: Global) -> bool {
         let Some(number) = self.first_borrowed() else {
-            return Ok(true);
+            return true;
         };
         let item = At::Count(u32::from(number));
         for (withdrawn, code) in [(false, Code::OutsideWindow), (true, Code::Recalled)] {
-            let channel = for_other_days(alloc, &self.channel, self.day.number(), withdrawn)?;
-            if channel.seal(&mut self.day) != refused_at(code, item) {
-                return Ok(false);
+            if self.sealed_for_other_days(rt, alloc, withdrawn) != refused_at(code, item) {
+                return false;
             }
         }
-        Ok(true)
+        true
     }
 
     // Tries to seal, and fills the first gap, until there is none.
-    fn seals_alike(&mut self, alloc: Global) -> Result<bool, Fail> {
+    fn seals_alike(&mut self, rt: &impl Abort, alloc: Global) -> bool {
         let plan = self.channel.plan;
         for _ in 0..40 {
             let Some(empty) = first_empty(&self.frames) else {
-                return Ok(
-                    self.stays_open(alloc)?
-                        && self.channel.seal(&mut self.day) == Ok(self.day.number()),
-                );
+                return self.stays_open(rt, alloc)
+                    && self.channel.seal(&mut self.day) == Ok(self.day.number());
             };
             let gap = refused_at(Code::Gap, place(&plan, empty));
             if self.channel.seal(&mut self.day) != gap {
-                return Ok(false);
+                return false;
             }
             let end = match first_taken(&self.frames, empty, self.frames.len()) {
                 Some(taken) => taken,
                 None => self.frames.len(),
             };
-            if !self.adds_alike(short(empty), short(end.saturating_sub(empty)), 0)? {
-                return Ok(false);
+            if !self.adds_alike(rt, short(empty), short(end.saturating_sub(empty)), 0) {
+                return false;
             }
         }
-        Ok(false)
+        false
     }
 }
 
 // A channel that is lent the same clips, withdrawn or not, for the day behind this one alone.
 fn for_other_days(
+    rt: &impl Abort,
     alloc: Global,
     channel: &Channel,
     day: u32,
     withdrawn: bool,
-) -> Result<Channel, Fail> {
+) -> Channel {
     let behind = day.saturating_add(1);
     let mut grants = Vec::new(alloc);
     for grant in channel.lent.grants() {
@@ -383,14 +390,14 @@ fn for_other_days(
             withdrawn: withdrawn || grant.offer.withdrawn,
             ..grant.offer
         };
-        grants.push(Grant { offer, ..*grant })?;
+        let grant = Grant { offer, ..*grant };
+        grants.push(grant).expect(rt, "memory");
     }
-    Channel::borrowing(alloc, channel.plan, grants)
+    Channel::borrowing(rt, alloc, channel.plan, grants)
 }
 
-// Adds and takes out, and seals in the end.
-fn goes_alike(alloc: Global, k: u32) -> Result<bool, Fail> {
-    let mut walked = Walked::of(alloc, k)?;
+// Adds and takes out.
+fn changes_alike(rt: &impl Abort, walked: &mut Walked, k: u32) -> bool {
     let frames = day_frames(walked.channel.plan.rate);
     let mut random = next(next(k));
     for _ in 0..20 {
@@ -401,25 +408,29 @@ fn goes_alike(alloc: Global, k: u32) -> Result<bool, Fail> {
         // Half of them are black. No lent clip has number 8.
         let lent = (random >> 16) % 16;
         let lent = if lent < 9 { lent as u16 } else { 0 };
-        if !walked.adds_alike(position, length, lent)? {
-            return Ok(false);
+        if !walked.adds_alike(rt, position, length, lent) {
+            return false;
         }
         if random % 5 == 0 && !walked.removes_alike((random / 5 % 7) as u16) {
-            return Ok(false);
+            return false;
         }
     }
-    Ok(
-        shows_all(&walked.frames, walked.day.items())
-            && walked.stays_open(alloc)?
-            && walked.seals_alike(alloc)?
-            && shows_all(&walked.frames, walked.day.items()),
-    )
+    true
+}
+
+// Adds and takes out, and seals in the end.
+fn goes_alike(rt: &impl Abort, alloc: Global, k: u32) -> bool {
+    let mut walked = Walked::of(rt, alloc, k);
+    changes_alike(rt, &mut walked, k)
+        && shows_all(&walked.frames, walked.day.items())
+        && walked.stays_open(rt, alloc)
+        && walked.seals_alike(rt, alloc)
+        && shows_all(&walked.frames, walked.day.items())
 }
 
 #[test]
-fn fifty_days_go_as_walks_over_their_frames(rt: HostRuntime) -> Result<(), Fail> {
+fn fifty_days_go_as_walks_over_their_frames(rt: HostRuntime) {
     for k in 0..50 {
-        assert!(rt; goes_alike(rt.alloc(), k)?, "day {k}");
+        assert!(rt; goes_alike(&rt, rt.alloc(), k), "day {k}");
     }
-    Ok(())
 }

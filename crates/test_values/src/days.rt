@@ -4,7 +4,7 @@ use grant_core::{Grant, LentRows};
 use playlist_core::{DayPlan, DayState, EditKind, NewItem, OfferNumber, Owner, Source, SourceRows};
 use playlist_edl::{DayLists, Imported, can_be_exported};
 use std::alloc::Global;
-use std::test::Fail;
+use std::process::Abort;
 use timecode::{Rate, day_frames};
 use umid::Umid;
 use vault_core::{Barcode, Clip, Offer, OwnRows, Tape, Title};
@@ -32,54 +32,49 @@ pub(crate) struct Channel {
 
 impl Channel {
     // With clip 1, NEWS, of 125 frames from the first of tape 1 on; channel 3 lends it a clip.
-    pub(crate) fn of(alloc: Global, plan: PlanRow) -> Result<Channel, Fail> {
-        Channel::borrowing(alloc, plan, vec![in alloc; grant()?]?)
+    pub(crate) fn of(rt: &impl Abort, alloc: Global, plan: PlanRow) -> Channel {
+        let grants = vec![in alloc; grant(rt)].expect(rt, "memory");
+        Channel::borrowing(rt, alloc, plan, grants)
     }
 
     // With the same clip, and these lent to it.
     pub(crate) fn borrowing(
+        rt: &impl Abort,
         alloc: Global,
         plan: PlanRow,
         grants: Vec<Grant>,
-    ) -> Result<Channel, Fail> {
-        Ok(Channel {
+    ) -> Channel {
+        Channel {
             plan,
-            own: own_rows(alloc, plan)?,
-            lent: LentRows::from_rows(1, grants).ok().ok_or("lent rows")?,
-        })
+            own: own_rows(rt, alloc, plan),
+            lent: LentRows::from_rows(1, grants).expect(rt, "lent rows"),
+        }
     }
 
-    pub(crate) fn open_day(&self, alloc: Global) -> Result<DayPlan, Fail> {
-        self.open_day_numbered(alloc, 1)
+    pub(crate) fn open_day(&self, rt: &impl Abort, alloc: Global) -> DayPlan {
+        self.open_day_numbered(rt, alloc, 1)
     }
 
-    pub(crate) fn open_day_numbered(&self, alloc: Global, number: u32) -> Result<DayPlan, Fail> {
-        Ok(
-            DayPlan::from_rows(number, &self.plan, DayState::Open, Vec::new(alloc))
-                .ok()
-                .ok_or("a day")?,
-        )
+    pub(crate) fn open_day_numbered(&self, rt: &impl Abort, alloc: Global, number: u32) -> DayPlan {
+        DayPlan::from_rows(number, &self.plan, DayState::Open, Vec::new(alloc)).expect(rt, "a day")
     }
 
     pub(crate) fn add(
         &self,
+        rt: &impl Abort,
         day: &mut DayPlan,
         new: NewItem,
-    ) -> Result<Result<u16, Refusal>, Fail> {
+    ) -> Result<u16, Refusal> {
         if new.mix > 999 || !new.kind.is_in_range() {
-            return Err("an item in range")?;
+            panic!(rt; "an item in range");
         }
-        Ok(day.add_item(&self.plan, &self.sources(), &new))
+        day.add_item(&self.plan, &self.sources(), &new)
     }
 
     // Adds an item, whose number is this one.
-    pub(crate) fn adds(&self, day: &mut DayPlan, new: NewItem, number: u32) -> Result<(), Fail> {
-        let added = self.add(day, new)?.ok().ok_or("a number")?;
-        if u32::from(added) == number {
-            Ok(())
-        } else {
-            Err("the next number".into())
-        }
+    pub(crate) fn adds(&self, rt: &impl Abort, day: &mut DayPlan, new: NewItem, number: u32) {
+        let added = self.add(rt, day, new).expect(rt, "a number");
+        assert!(rt; u32::from(added) == number, "the next number");
     }
 
     pub(crate) fn seal(&self, day: &mut DayPlan) -> Result<u32, Refusal> {
@@ -88,30 +83,32 @@ impl Channel {
 
     pub(crate) fn import(
         &self,
+        rt: &impl Abort,
         day: &mut DayPlan,
         alloc: Global,
         text: &[u8],
         ignore: bool,
-    ) -> Result<Result<Imported, Refusal>, Fail> {
+    ) -> Result<Imported, Refusal> {
         if text.len() > 1_000_000 || self.plan.start >= day_frames(self.plan.rate) {
-            return Err("a list and a start of the day")?;
+            panic!(rt; "a list and a start of the day");
         }
         let sources = self.sources();
-        Ok(day.import_list(alloc, &self.plan, &sources, text, ignore))
+        day.import_list(alloc, &self.plan, &sources, text, ignore)
     }
 
     pub(crate) fn export(
         &self,
+        rt: &impl Abort,
         day: &DayPlan,
         alloc: Global,
-    ) -> Result<Result<String, Refusal>, Fail> {
+    ) -> Result<String, Refusal> {
         let sources = self.sources();
         if day.frames() != day_frames(self.plan.rate)
             || !can_be_exported(day, &self.plan, &sources)
         {
-            return Err("a day that can be exported")?;
+            panic!(rt; "a day that can be exported");
         }
-        Ok(day.export_list(alloc, &self.plan, &sources))
+        day.export_list(alloc, &self.plan, &sources)
     }
 
     fn sources(&self) -> SourceRows<'_> {
@@ -120,48 +117,44 @@ impl Channel {
 }
 
 // A clip on tape 1.
-pub(crate) fn clip() -> Result<Clip, Fail> {
-    Ok(Clip {
+pub(crate) fn clip(rt: &impl Abort) -> Clip {
+    Clip {
         n: 1,
         tape: 1,
-        title: Title::read(b"NEWS").ok_or("a title")?,
-        umid: Umid::from_hex(UMID).ok().ok_or("a UMID")?,
+        title: Title::read(b"NEWS").expect(rt, "a title"),
+        umid: Umid::from_hex(UMID).expect(rt, "a UMID"),
         src_first: 0,
         frames: 125,
         retired: false,
-    })
+    }
 }
 
-fn own_rows(alloc: Global, plan: PlanRow) -> Result<OwnRows, Fail> {
+fn own_rows(rt: &impl Abort, alloc: Global, plan: PlanRow) -> OwnRows {
     let tape = Tape {
         n: 1,
-        barcode: Barcode::read(b"T1").ok_or("a barcode")?,
+        barcode: Barcode::read(b"T1").expect(rt, "a barcode"),
         slot: None,
     };
-    let tapes = vec![in alloc; tape]?;
-    let clips = vec![in alloc; clip()?]?;
-    Ok(
-        OwnRows::from_rows(alloc, plan, tapes, clips, Vec::new(alloc))
-            .ok()
-            .ok_or("own rows")?,
-    )
+    let tapes = vec![in alloc; tape].expect(rt, "memory");
+    let clips = vec![in alloc; clip(rt)].expect(rt, "memory");
+    OwnRows::from_rows(alloc, plan, tapes, clips, Vec::new(alloc)).expect(rt, "own rows")
 }
 
 // A clip that channel 3 lends to channel 1.
-pub(crate) fn grant() -> Result<Grant, Fail> {
+pub(crate) fn grant(rt: &impl Abort) -> Grant {
     let offer = Offer {
         n: 1,
         grantee: 1,
         clip: 1,
-        title: Title::read(b"LENT").ok_or("a title")?,
-        umid: Umid::from_hex(UMID).ok().ok_or("a UMID")?.with_instance(1),
+        title: Title::read(b"LENT").expect(rt, "a title"),
+        umid: Umid::from_hex(UMID).expect(rt, "a UMID").with_instance(1),
         rate: Rate::F25,
         src_first: 50,
         frames: 100,
         window: None,
         withdrawn: false,
     };
-    Ok(Grant { owner: 3, offer })
+    Grant { owner: 3, offer }
 }
 
 // The lent clip of a number, which channel 3 lends.

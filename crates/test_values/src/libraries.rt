@@ -2,7 +2,9 @@
 ghost use Rattle.std.specs.Prelude.{◌<◌, ◌^◌, length};
 
 use crate::asserts::same;
-use edl::{EditType, Event, OutEvent, can_be_written, read_from_string, write_to_string};
+use edl::{
+    EditType, Event, EventList, Events, OutEvent, can_be_written, read_from_string, write_to_string,
+};
 use std::alloc::Global;
 use std::process::Abort;
 use std::test::Fail;
@@ -11,7 +13,7 @@ use timecode::{
 };
 use umid::{Umid, UmidFault};
 
-// The examples of docs/LIBRARIES.md, statement by statement.
+// The examples of docs/LIBRARIES.md, statement by statement, so with the `?` that the page has.
 #[test]
 fn labels_of_the_page(rt: HostRuntime) -> Result<(), Fail> {
     let rate: Rate = "df".parse()?;
@@ -73,9 +75,9 @@ fn umids_of_the_page(rt: HostRuntime) -> Result<(), Fail> {
 }
 
 #[test]
-fn labels_give_their_frames(rt: HostRuntime) -> Result<(), Fail> {
+fn labels_give_their_frames(rt: HostRuntime) {
     for rate in Rate::ALL {
-        let label = to_timecode(1_800, rate)?;
+        let label = to_timecode(1_800, rate).expect(&rt, "a label");
         same(&rt, label.frame(), Ok(1_800));
         same(&rt, rate.text().parse::<Rate>(), Ok(rate));
     }
@@ -96,8 +98,8 @@ fn labels_give_their_frames(rt: HostRuntime) -> Result<(), Fail> {
     same(&rt, Rate::F30.nominal_frames_per_second(), 30);
     assert!(rt; Rate::Df30.is_drop_frame() && !Rate::F30.is_drop_frame());
     same(&rt, "29.97".parse::<Rate>(), Err(UnknownRate));
-    assert!(rt; to_timecode(1_799, Rate::F25)? < to_timecode(1_800, Rate::F25)?);
-    Ok(())
+    let label = to_timecode(1_799, Rate::F25).expect(&rt, "a label");
+    assert!(rt; label < to_timecode(1_800, Rate::F25).expect(&rt, "a label"));
 }
 
 #[test]
@@ -143,8 +145,8 @@ fn ranges_make_others(rt: HostRuntime) {
 const UMID: &str = "060a2b340101010501010d211300000700112233445566778899aabbccddeeff";
 
 #[test]
-fn umids_have_parts(rt: HostRuntime) -> Result<(), Fail> {
-    let umid: Umid = UMID.parse()?;
+fn umids_have_parts(rt: HostRuntime) {
+    let umid: Umid = UMID.parse().expect(&rt, "a UMID");
     same(&rt, umid.version(), 5);
     same(&rt, umid.material_type(), 0x0d);
     same(&rt, umid.material_number_method(), 2);
@@ -154,7 +156,6 @@ fn umids_have_parts(rt: HostRuntime) -> Result<(), Fail> {
     same(&rt, Umid::try_from(umid.to_bytes().as_slice()), Ok(umid));
     same(&rt, "06".parse::<Umid>(), Err(UmidFault::Length));
     assert!(rt; umid.with_instance(6) < umid);
-    Ok(())
 }
 
 const LIST: &str = "TITLE: NIGHT
@@ -174,33 +175,44 @@ FCM: NON-DROP FRAME
 ";
 
 // The events of a list with their record an hour later.
-fn an_hour_later(alloc: Global, text: &[u8], rate: Rate) -> Result<String, Fail>
-    requires { length text.now < 2 ^ 32 }
-{
-    let list = read_from_string(alloc, text, rate, false)?;
-    let hour = from_timecode(b"01:00:00:00", rate)?;
+fn moved<'a>(
+    rt: &impl Abort,
+    alloc: Global,
+    list: &EventList<'a>,
+    rate: Rate,
+) -> Vec<OutEvent<'a>> {
+    let hour = from_timecode(b"01:00:00:00", rate).expect(rt, "a label");
     let day = day_frames(rate);
     let mut events = Vec::new(alloc);
     for event in &list.events {
-        let mut event = event.to_out()?;
+        let mut event = event.to_out().expect(rt, "memory");
         event.record_first = (event.record_first % day + hour) % day;
-        events.push(event)?;
+        events.push(event).expect(rt, "memory");
     }
-    if !can_be_written(rate, events.as_slice()) {
-        return Err(Fail::new("an event can't be written"));
-    }
-    Ok(write_to_string(alloc, "AN HOUR LATER", rate, events.as_slice())?)
+    events
+}
+
+// The list of them.
+fn an_hour_later(rt: &impl Abort, alloc: Global, text: &[u8], rate: Rate) -> String
+    requires { length text.now < 2 ^ 32 }
+{
+    let list = read_from_string(alloc, text, rate, false).expect(rt, "a list");
+    let events = moved(rt, alloc, &list, rate);
+    assert!(rt;
+        can_be_written(rate, events.as_slice()),
+        "an event can't be written"
+    );
+    write_to_string(alloc, "AN HOUR LATER", rate, events.as_slice()).expect(rt, "memory")
 }
 
 #[test]
-fn lists_are_moved_by_an_hour(rt: HostRuntime) -> Result<(), Fail> {
-    let moved = an_hour_later(rt.alloc(), LIST.as_bytes(), Rate::F25)?;
+fn lists_are_moved_by_an_hour(rt: HostRuntime) {
+    let moved = an_hour_later(&rt, rt.alloc(), LIST.as_bytes(), Rate::F25);
     same(&rt, moved.as_str(), LATER);
-    Ok(())
 }
 
 // What the first event of the list is.
-fn event_is_known(rt: &impl Abort, event: &Event<'_>) -> Result<(), Fail> {
+fn event_is_known(rt: &impl Abort, event: &Event<'_>) {
     same(rt, event.edit_type(), Some(EditType::Cut));
     assert!(rt; event.is_picture());
     let source = TimeRange {
@@ -214,27 +226,42 @@ fn event_is_known(rt: &impl Abort, event: &Event<'_>) -> Result<(), Fail> {
         event.notes.iter().next().copied(),
         Some("* TO CLIP NAME: NEWS"),
     );
-    same(rt, event.clone()?, event.clone()?);
-    let out = OutEvent::of(event.clone()?);
+}
+
+// A copy of an event is the same, and can be written as it.
+fn is_copied(rt: &impl Abort, event: &Event<'_>) {
+    let copy = event.clone().expect(rt, "memory");
+    same(rt, event.clone().expect(rt, "memory"), copy);
+    let out = OutEvent::of(event.clone().expect(rt, "memory"));
     assert!(rt; out.can_be_written(Rate::F25) && !out.can_be_written(Rate::F24));
-    Ok(())
+}
+
+// What the list is.
+fn list_is_known(rt: &impl Abort, list: &EventList<'_>) {
+    for event in &list.events {
+        if event.number == 1 {
+            event_is_known(rt, event);
+            is_copied(rt, event);
+        }
+    }
+    same(rt, list.events.iter().count(), 2);
+}
+
+// The events of a list but the last.
+fn but_the_last<'a>(list: EventList<'a>) -> Events<'a> {
+    let mut events = list.events.into_vec();
+    events.pop();
+    Events::of(events)
 }
 
 #[test]
-fn lists_are_values(rt: HostRuntime) -> Result<(), Fail> {
-    let list = read_from_string(rt.alloc(), LIST.as_bytes(), Rate::F25, false)?;
-    let copy = list.clone()?;
+fn lists_are_values(rt: HostRuntime) {
+    let list = read_from_string(rt.alloc(), LIST.as_bytes(), Rate::F25, false);
+    let list = list.expect(&rt, "a list");
+    let copy = list.clone().expect(&rt, "memory");
     assert!(rt; copy == list);
-    for event in &list.events {
-        if event.number == 1 {
-            event_is_known(&rt, event)?;
-        }
-    }
-    same(&rt, list.events.iter().count(), 2);
-    let mut events = copy.events.into_vec();
-    events.pop();
-    assert!(rt; edl::Events::of(events) != list.events);
+    list_is_known(&rt, &list);
+    assert!(rt; but_the_last(copy) != list.events);
     same(&rt, EditType::of("W12"), Some(EditType::Wipe(12)));
     same(&rt, EditType::of("X"), None);
-    Ok(())
 }

@@ -3,9 +3,10 @@ use crate::asserts::same;
 use crate::days::{AT_25, DAY, clip, grant};
 use asrun_match::{Run, Status};
 use grant_core::Grant;
-use playlist_core::{ClipNumber, DayState, Item, Source};
+use playlist_core::{ClipNumber, DayPlan, DayState, Item, Source};
 use reports::{RowFault, write_clip, write_grant, write_item, write_match, write_plan};
-use std::test::Fail;
+use std::alloc::Global;
+use std::process::Abort;
 use timecode::Rate;
 use vault_core::{Clip, Offer};
 
@@ -20,33 +21,41 @@ const MATCH: &[u8] = b"06:00:00:00 1500 OK\n\
     OK 1500 SLIP 0 WRONG 0 MISSED 2158500\n";
 
 // The source that the channel's first clip is.
-fn own_source() -> Result<Source, Fail> {
-    Ok(Source::Own(ClipNumber::new(1).ok_or("a clip's number")?))
+fn own_source(rt: &impl Abort) -> Source {
+    Source::Own(ClipNumber::new(1).expect(rt, "a clip's number"))
 }
 
-#[test]
-fn a_writer_that_is_full_has_a_beginning_of_the_plan_table(rt: HostRuntime) -> Result<(), Fail> {
-    let own = own_source()?;
-    let items = vec![in rt.alloc();
+fn sealed_day(rt: &impl Abort, alloc: Global) -> Airing {
+    let items = vec![in alloc;
         item(1, 0, 1_000, Source::Black),
-        item(2, 1_000, DAY - 1_000, own),
-    ]?;
-    let airing = Airing::of(rt.alloc(), AT_25, DayState::Sealed, items)?;
+        item(2, 1_000, DAY - 1_000, own_source(rt)),
+    ];
+    let items = items.expect(rt, "memory");
+    Airing::of(rt, alloc, AT_25, DayState::Sealed, items)
+}
+
+// With less room than the table takes.
+fn beginnings_are_written(rt: &impl Abort, day: &DayPlan) {
     for room in 0..PLAN.len() {
         let mut taken = [0; 256];
         let mut output = &mut taken[..room];
-        let written = write_plan(&mut output, &AT_25, &airing.day);
-        same(&rt, matches!(written, Err(RowFault::Write(_))), true);
-        same(&rt, &taken[..room], &PLAN[..room]);
+        let written = write_plan(&mut output, &AT_25, day);
+        same(rt, matches!(written, Err(RowFault::Write(_))), true);
+        same(rt, &taken[..room], &PLAN[..room]);
     }
-    let mut whole = Vec::new(rt.alloc());
-    same(&rt, write_plan(&mut whole, &AT_25, &airing.day), Ok(()));
-    same(&rt, whole.as_slice(), PLAN);
-    Ok(())
 }
 
 #[test]
-fn a_writer_that_is_full_has_a_beginning_of_the_match_table(rt: HostRuntime) -> Result<(), Fail> {
+fn a_writer_that_is_full_has_a_beginning_of_the_plan_table(rt: HostRuntime) {
+    let airing = sealed_day(&rt, rt.alloc());
+    beginnings_are_written(&rt, &airing.day);
+    let mut whole = Vec::new(rt.alloc());
+    same(&rt, write_plan(&mut whole, &AT_25, &airing.day), Ok(()));
+    same(&rt, whole.as_slice(), PLAN);
+}
+
+#[test]
+fn a_writer_that_is_full_has_a_beginning_of_the_match_table(rt: HostRuntime) {
     let runs = [
         Run {
             position: 0,
@@ -68,23 +77,22 @@ fn a_writer_that_is_full_has_a_beginning_of_the_match_table(rt: HostRuntime) -> 
     let mut whole = Vec::new(rt.alloc());
     same(&rt, write_match(&mut whole, &AT_25, &runs), Ok(()));
     same(&rt, whole.as_slice(), MATCH);
-    Ok(())
 }
 
 // A frame behind the day's last has no label.
 #[test]
-fn what_has_no_label_has_no_line(rt: HostRuntime) -> Result<(), Fail> {
+fn what_has_no_label_has_no_line(rt: HostRuntime) {
     let mut output = Vec::new(rt.alloc());
     let clip = Clip {
         src_first: DAY,
-        ..clip()?
+        ..clip(&rt)
     };
     same(
         &rt,
         write_clip(&mut output, Rate::F25, &clip),
         Err(RowFault::NoLabel),
     );
-    let lent = grant()?;
+    let lent = grant(&rt);
     let lent = Grant {
         offer: Offer {
             src_first: DAY,
@@ -95,7 +103,7 @@ fn what_has_no_label_has_no_line(rt: HostRuntime) -> Result<(), Fail> {
     same(&rt, write_grant(&mut output, &lent), Err(RowFault::NoLabel));
     let item = Item {
         src_first: DAY,
-        ..item(1, 0, 1, own_source()?)
+        ..item(1, 0, 1, own_source(&rt))
     };
     same(
         &rt,
@@ -103,5 +111,4 @@ fn what_has_no_label_has_no_line(rt: HostRuntime) -> Result<(), Fail> {
         Err(RowFault::NoLabel),
     );
     same(&rt, output.is_empty(), true);
-    Ok(())
 }

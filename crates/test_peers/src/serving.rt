@@ -1,0 +1,41 @@
+//! Connections that are served over a new store of one channel.
+use channel_plan::PlanRow;
+use channel_view::MemRows;
+use playout_actions::FaultLines;
+use playout_peers::{Door, Limits, serve_peers, serve_turns};
+use std::alloc::Global;
+use std::net::TcpListener;
+use std::process::Abort;
+
+fn store_of(rt: &impl Abort, alloc: Global) -> MemRows {
+    let row = PlanRow::read(b"1,25,06:00:00:00,40").expect(rt, "a plan row");
+    MemRows::new(alloc, &[row]).expect(rt, "a plan")
+}
+
+/// Whether all went without a fault, and what was told of faults.
+pub(crate) fn served<D: Door>(
+    rt: &impl Abort,
+    alloc: Global,
+    door: &mut D,
+    limits: Limits,
+) -> (bool, Vec<u8>) {
+    let mut store = store_of(rt, alloc);
+    let mut told = Vec::new(alloc);
+    let mut faults = FaultLines::new(&mut told);
+    let is_quiet = serve_peers(alloc, &mut store, door, limits, &mut faults);
+    (is_quiet, told)
+}
+
+/// The same, one after another.
+pub(crate) fn served_in_turn(
+    rt: &impl Abort,
+    alloc: Global,
+    listener: &TcpListener,
+    turns: u32,
+) -> (bool, Vec<u8>) {
+    let mut store = store_of(rt, alloc);
+    let mut told = Vec::new(alloc);
+    let mut faults = FaultLines::new(&mut told);
+    let is_quiet = serve_turns(alloc, &mut store, listener, turns, &mut faults);
+    (is_quiet, told)
+}
