@@ -1,19 +1,5 @@
-mod ServingLemmas
-pub mod ServedLemmas
-mod AgainOwnLemmas
-mod PaintedLemmas
-mod AgainReviseLemmas
-mod TakenBackLemmas
-mod AgainDayLemmas
-mod AgainAiringLemmas
-pub mod AgainLemmas
+mod NumberLemmas
 pub mod DayPlaceLemmas
 pub mod GrantPlaceLemmas
 pub mod OrderLemmas
-pub mod PartTableLemmas
-pub mod PartViewLemmas
-mod PartRuleLemmas
-mod PartChangeLemmas
-mod PartLendLemmas
-pub mod PartLemmas
 pub mod LabelLemmas

@@ -1,8 +1,2 @@
-pub mod Requests
-pub mod Runs
-pub mod Ran
-pub mod Again
 pub mod Places
-pub mod Parts
-pub mod Revisions
 pub mod Walks

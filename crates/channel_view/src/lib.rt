@@ -30,19 +30,17 @@ pub mod laws;
 mod lending;
 mod mem;
 mod mem_days;
-mod requests;
-mod runs;
 mod sources;
 
 pub use channel_plan::{At, Code, PlanRow, Refusal};
+pub use channel_view_decisions::{decide, decide_part};
 pub use channel_view_model::{
     AiringCommand, Airings, CentreRows, Change, Command, DayCommand, DayNumber, Days, Mix, Need,
     Outcome, Part, Reply, RowStore, SourcesAsked, Table, TableFault, TableText, Upload,
     VaultChange, VaultCommand, View,
 };
-pub use channel_view_rules::{decide, decide_part, keeps_rules};
+pub use channel_view_requests::{handle, prepare, run};
+pub use channel_view_rules::keeps_rules;
 pub use mem::MemRows;
-pub use requests::{handle, prepare};
-pub use runs::run;
 pub use sources::{FindsSources, sources_at};
 pub use timecode::Unavailable;

@@ -17,3 +17,4 @@ pub mod ReelLemmas
 pub mod AlikeLemmas
 pub mod NeedLemmas
 pub mod SourceLemmas
+pub mod PlannedLemmas

@@ -6,6 +6,7 @@ pub mod Revising
 pub mod Airings
 pub mod Seen
 pub mod TableText
+pub mod Counts
 pub mod TableFault
 pub mod Decide
 pub mod Centre

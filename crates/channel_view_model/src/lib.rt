@@ -7,7 +7,8 @@
 //!
 //! - [`Command`] is what a channel asks, [`Reply`] and [`Change`] what comes of it.
 //! - [`Need`] is what a command asks of the rows, and a [`Part`] has just these rows and counts.
-//! - [`RowStore`] is a store of the rows: in memory, or in the tables of a database.
+//! - [`RowStore`] is a store of the rows: in memory, or in the tables of a database. One that counts days ([`CountsDays`])
+//!   tells of each what the days table does (`specs/Counts`).
 //! - `specs/Rules` has the integrity rules, `specs/Solo` a channel by itself, its lenders and the purge of all others.
 //!
 //! A `DayNumber` is 1 to 99,999, a `Mix` at most 999, `Upload` (a list, a batch) fewer than
@@ -37,6 +38,6 @@ pub use days::{Days, days_alone};
 pub use need::{FEW_SOURCES, Need, SourcesAsked, items_asked, names_asked, sources_of};
 pub use part::Part;
 pub use revision::{ItemRefusal, Revised, Revision, SaidItem};
-pub use store::RowStore;
+pub use store::{CountsDays, RowStore};
 pub use table::{Table, TableFault, TableText};
 pub use view::{View, nothing_aired};

@@ -1,8 +1,10 @@
 //! Stores of the rows of all channels.
 ghost use Rattle.std.specs.Prelude.{◌≡◌, ◌⊎◌, is_some, IfOk, OnOk, OnErr, IsOk};
+ghost use Rattle.std.specs.Option.{option_map};
 ghost use Rattle.std.specs.Io.KnownBytes.{Appends};
 ghost use Rattle.reports.specs.Output.{AppendsPart};
 ghost use Rattle.channel_view_model.specs.Centre.{Centre, view_of, changed, IsChangeOf};
+ghost use Rattle.channel_view_model.specs.Counts.{counts_seen};
 ghost use Rattle.channel_view_model.specs.Need.{IsFetched};
 ghost use Rattle.channel_view_model.specs.Rules.{KeepsRules};
 ghost use Rattle.channel_view_model.specs.TableText.{text_at};
@@ -13,6 +15,7 @@ use crate::need::Need;
 use crate::part::Part;
 use crate::table::{Table, TableFault};
 use crate::view::View;
+use reports::DayCounts;
 use std::io::Write;
 use timecode::Unavailable;
 
@@ -96,4 +99,20 @@ pub trait RowStore {
         // Done or refused, all that a stop may leave holds a set, where it did before.
         ensures sets { WhileClean (is_clean self.new) (stands_for self.old)
             (λ rows. IsChangeOf channel change.now rows → leaves_sets self.old → leaves_sets self.new) };
+}
+
+/// A store that tells of each of a channel's days what the days table does, without writing it.
+pub trait CountsDays: RowStore {
+    /// What the days table tells of each day of the channel, by number, or `None` where the channel isn't in the plan.
+    fn day_counts(&mut self, channel: u16) -> Result<Option<Vec<DayCounts>>, Unavailable>
+        ensures clean { Self.is_clean self.new → Self.is_clean self.old }
+        ensures counts { WhileClean (Self.is_clean self.new) (Self.stands_for self.old) (λ rows. IfOk result
+            (λ counts. option_map (λ c. c.items) counts ≡ option_map counts_seen (view_of channel rows))) }
+        ensures rules { WhileClean (Self.is_clean self.new) (Self.stands_for self.old)
+            (λ rows. OnOk result (KeepsRules rows)) }
+        ensures same { WhileClean (Self.is_clean self.new) (Self.stands_for self.old)
+            (λ rows. Self.stands_for self.new rows) }
+        ensures stop { Self.is_clean self.new → (left : Centre) → Self.may_leave self.new left →
+            Self.may_leave self.old left }
+        ensures sets { Self.leaves_sets self.old → Self.leaves_sets self.new };
 }

@@ -1,9 +1,5 @@
-//! What a command of one channel is answered and changes, whether a set of rows of all channels keeps the integrity
-//! rules, and where a channel's rows stand in tables in order.
+//! Whether a set of rows of all channels keeps the integrity rules, and where a channel's rows stand in tables in order.
 //!
-//! - [`decide`] gives the reply and the change of a command over all that its channel sees ([`View`]), [`decide_part`]
-//!   the same by just the rows and counts that the command needs ([`Need`], [`Part`]). A [`Table`] needs all rows of a
-//!   kind: as text it is a reply ([`TableText`]). The definitions are `channel_view_model`'s.
 //! - [`keeps_rules`] is true just of a set that keeps them. It goes through the plan with a place in each table, and
 //!   through each table once.
 //! - [`keeps_view_rules`] is true just of what one channel sees that keeps them (`specs/ViewRules`).
@@ -14,21 +10,15 @@
 //! A set that keeps the rules gives each channel a view that keeps them (`views_keep_the_rules`).
 #![tactic(auto)]
 
-mod airing_decisions;
 mod airing_rules;
 mod bisecting;
-mod day_decisions;
 mod day_rules;
-mod decisions;
-mod revising;
 mod row_tables;
 mod rules;
 mod view_rules;
-mod view_text;
 
 pub use bisecting::{OfChannel, channel_end, channel_rows, channel_start};
 pub use day_rules::grants_to;
-pub use decisions::{decide, decide_part};
 pub use row_tables::{write_clips_of, write_days_of, write_offers_of, write_vault_of};
 pub use rules::{keeps_rules, without_channels};
 pub use view_rules::{keeps_view_rules, views_keep_the_rules};

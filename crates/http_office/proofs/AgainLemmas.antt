@@ -5,8 +5,8 @@ use Rattle.http_office_requests.specs.Request.{Asked}
 use Rattle.http_office.specs.Message.{answer_to, rows_asked}
 use Rattle.http_office.specs.Run.{AnswersAll, rows_left_by}
 use Rattle.http_office.specs.Again.{given_asked, given_bytes}
-use Rattle.http_office.specs.declared.answers.Answer.{Answer}
-use Rattle.http_office.specs.declared.answers.Answer.TheVariants.{Given, Unavailable}
+use Rattle.http_office_answers.specs.declared.answers.Answer.{Answer}
+use Rattle.http_office_answers.specs.declared.answers.Answer.TheVariants.{Given, Unavailable}
 
 -- the answers to messages one after another, and the rows behind them
 abbrev texts : Centre → List Asked → List (List ℕ)

@@ -10,21 +10,22 @@ use Rattle.channel_view_model.specs.declared.command.Command.{Command}
 use Rattle.channel_view_model.specs.Centre.{Centre, Request, reply_at, reply_to, after, after_all, plan_of, view_of}
 use Rattle.channel_view_model.specs.Rules.{KeepsRules}
 use Rattle.channel_view_model.specs.Solo.{solo_reply, solo_after, replies_to, solo_outcomes, feed, purge}
-use Rattle.channel_view.specs.Requests.{stop_after}
-use Rattle.channel_view.specs.Runs.{in_doubt_after, MayRemain}
-use Rattle.channel_view.specs.Parts.{rows_part, requests_part, IsClosed, IsClosedPart}
-use Rattle.channel_view_rules.proofs.RunLemmas.{alone_law, purge_law}
+use Rattle.channel_view_laws.specs.Requests.{stop_after}
+use Rattle.channel_view_laws.specs.Runs.{in_doubt_after, MayRemain}
+use Rattle.channel_view_laws.specs.Parts.{rows_part, requests_part, IsClosed, IsClosedPart}
+use Rattle.channel_view_laws.proofs.RunLemmas.{alone_law, purge_law}
 use Rattle.channel_view_model.proofs.StepLemmas.{reply_is}
 use Rattle.channel_view_model.proofs.ViewLemmas.{view_of-after_own}
-use Rattle.channel_view.proofs.ServedLemmas.{remains_one}
-use Rattle.channel_view.proofs.PartLemmas.{replies-of_whole, rows-of_whole}
+use Rattle.channel_view_laws.proofs.ServedLemmas.{remains_one}
+use Rattle.channel_view_laws.proofs.PartLemmas.{replies-of_whole, rows-of_whole}
 use Rattle.http_office_requests.specs.Request.{Asked, refused, command}
-use Rattle.http_office.specs.Answer.{bytes_of}
-use Rattle.http_office.specs.Message.{IsAskedBy, Answers, answer_bytes, rows_left, stop_asked}
+use Rattle.http_office_answers.specs.Answer.{bytes_of}
+use Rattle.http_office_answers.specs.Answer.{answer_bytes}
+use Rattle.http_office.specs.Message.{IsAskedBy, Answers, rows_left, stop_asked}
 use Rattle.http_office.specs.Run.{HasAnswered, AreAskedBy, AnswersAll, rows_left_by, stop_after_messages}
 use Rattle.http_office.specs.Alone.{kept_commands, given_to, SeesAlike, OnBothGiven, in_doubt_behind}
-use Rattle.http_office.specs.declared.answers.Answer.{Answer}
-use Rattle.http_office.specs.declared.answers.Answer.TheVariants.{Given, Unavailable}
+use Rattle.http_office_answers.specs.declared.answers.Answer.{Answer}
+use Rattle.http_office_answers.specs.declared.answers.Answer.TheVariants.{Given, Unavailable}
 use Rattle.http_office.proofs.MessageLemmas.{one_request}
 use Rattle.http_office.proofs.RunLemmas.{left_is}
 

@@ -10,8 +10,8 @@ use Rattle.http_office_requests.specs.Found.{OfPiece, len_found}
 use Rattle.httparse.specs.Grammar.{RequestHead}
 use Rattle.channel_view_model.specs.Centre.{Centre}
 use Rattle.http_office.specs.Message.{IsAskedBy, rows_left}
-use Rattle.http_office.specs.declared.answers.Answer.{Answer}
-use Rattle.http_office.specs.declared.answers.Answer.TheVariants.{Given, Unavailable}
+use Rattle.http_office_answers.specs.declared.answers.Answer.{Answer}
+use Rattle.http_office_answers.specs.declared.answers.Answer.TheVariants.{Given, Unavailable}
 use Rattle.http_office_requests.specs.declared.piece.MessageSpans.{MessageSpans}
 use Rattle.http_office_requests.specs.declared.piece.FoundPiece.{FoundPiece}
 use Rattle.http_office_requests.specs.declared.piece.FoundPiece.TheVariants.{Partial, Message, Last}

@@ -7,13 +7,13 @@ use Rattle.channel_view_model.specs.declared.command.Outcome.{Outcome}
 use Rattle.channel_view_model.specs.declared.command.Outcome.TheVariants as outcome
 use Rattle.channel_view_model.specs.Centre.{Centre, Request, after, after_all}
 use Rattle.channel_view_model.specs.Rules.{KeepsRules}
-use Rattle.channel_view.specs.Requests.{stop_after}
+use Rattle.channel_view_laws.specs.Requests.{stop_after}
 use Rattle.http_office_requests.specs.Request.{Asked, refused, command}
 use Rattle.http_office.specs.Message.{Answers, IsAskedBy, rows_left, stop_asked, outcome_of}
 use Rattle.http_office.specs.Run.{HasAnswered, AreAskedBy, AnswersAll, rows_left_by, stop_after_messages}
 use Rattle.http_office.specs.Alone.{kept_commands}
-use Rattle.http_office.specs.declared.answers.Answer.{Answer}
-use Rattle.http_office.specs.declared.answers.Answer.TheVariants.{Given, Unavailable}
+use Rattle.http_office_answers.specs.declared.answers.Answer.{Answer}
+use Rattle.http_office_answers.specs.declared.answers.Answer.TheVariants.{Given, Unavailable}
 use Rattle.http_office.proofs.MessageLemmas.{rows_left-refused}
 
 -- ---- more is asked after what was asked before

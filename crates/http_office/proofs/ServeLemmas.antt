@@ -10,7 +10,7 @@ use Rattle.std.proofs.lemmas.List.{length-map, map-append}
 use Rattle.channel_view_model.specs.Centre.{Centre}
 use Rattle.http_office_requests.specs.Piece.{Piece, message, last, IsPiece, IsPartial}
 use Rattle.http_office_requests.specs.Request.{Asked, request_of}
-use Rattle.http_office.specs.Message.{answer_bytes}
+use Rattle.http_office_answers.specs.Answer.{answer_bytes}
 use Rattle.http_office_requests.specs.FoundPiece.{IsNext, IsFramingProgress, status_of}
 use Rattle.http_office_requests.specs.Found.{OfPiece}
 use Rattle.http_office.specs.Run.{HasAnswered}
@@ -18,7 +18,7 @@ use Rattle.reports.specs.Output.{AppendsPart}
 use Rattle.http_office.specs.Stream.{goes_on, Begins, AllGoOn, bytes_of_all}
 use Rattle.http_office.specs.Serving.{Serves}
 use Rattle.http_office.specs.Turn.{ActsOn, TakesTurn, Stops, AnswersWhole, SoFar, HasServed, ReadsMore}
-use Rattle.http_office.specs.declared.answers.Answer.{Answer}
+use Rattle.http_office_answers.specs.declared.answers.Answer.{Answer}
 use Rattle.http_office_requests.specs.declared.piece.MessageSpans.{MessageSpans}
 use Rattle.http_office_requests.specs.declared.piece.HttpError.{HttpError}
 use Rattle.http_office_requests.specs.declared.piece.FramingProgress.{FramingProgress}

@@ -4,9 +4,9 @@ use Rattle.std.proofs.Common.{sym, ap, subst, ◌∙◌, append_assoc, append-ni
 use Rattle.std.specs.List.{concat}
 use Rattle.std.proofs.lemmas.List.{map-append}
 use Rattle.http_office_requests.specs.Piece.{Piece, message, last, IsPiece, IsPartial}
-use Rattle.http_office.specs.Message.{answer_bytes}
+use Rattle.http_office_answers.specs.Answer.{answer_bytes}
 use Rattle.http_office.specs.Stream.{goes_on, Begins, AllGoOn, EndsWithLast, IsCut, StopsIn, bytes_of_all}
-use Rattle.http_office.specs.declared.answers.Answer.{Answer}
+use Rattle.http_office_answers.specs.declared.answers.Answer.{Answer}
 use Rattle.http_office_requests.proofs.PieceLemmas.{head_some, one_piece}
 
 -- more comes behind the rest

@@ -3,8 +3,8 @@
 -- it had been sent once.
 use Rattle.std.specs.Prelude.{ℕ, List, [], ◌∷◌}
 use Rattle.http_office_requests.specs.Request.{Asked}
-use Rattle.http_office.specs.declared.answers.Answer.{Answer}
-use Rattle.http_office.specs.declared.answers.Answer.TheVariants.{Given, Unavailable}
+use Rattle.http_office_answers.specs.declared.answers.Answer.{Answer}
+use Rattle.http_office_answers.specs.declared.answers.Answer.TheVariants.{Given, Unavailable}
 
 -- what was asked by those that were given an answer
 abbrev pub given_asked : List Asked → List Answer → List Asked

@@ -3,11 +3,11 @@
 use Rattle.std.specs.Prelude.{◌≡◌, ℕ, List, [], ◌∷◌, ◌==◌, if◌then◌else◌}
 use Rattle.std.specs.Bool.{⊤}
 use Rattle.channel_view_model.specs.Centre.{Centre, Request, view_of}
-use Rattle.channel_view.specs.Runs.{in_doubt_after}
+use Rattle.channel_view_laws.specs.Runs.{in_doubt_after}
 use Rattle.http_office_requests.specs.Request.{Asked, refused, command}
 use Rattle.http_office.specs.Message.{rows_left, outcome_of}
-use Rattle.http_office.specs.declared.answers.Answer.{Answer}
-use Rattle.http_office.specs.declared.answers.Answer.TheVariants.{Given, Unavailable}
+use Rattle.http_office_answers.specs.declared.answers.Answer.{Answer}
+use Rattle.http_office_answers.specs.declared.answers.Answer.TheVariants.{Given, Unavailable}
 
 -- the commands of channels that weren't answered Unavailable; a message that asks nothing of a channel is none
 abbrev pub kept_commands : List Asked → List Answer → List Request

@@ -1,4 +1,3 @@
-pub mod Answer
 pub mod Message
 pub mod Run
 pub mod Stream

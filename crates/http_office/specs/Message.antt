@@ -5,12 +5,12 @@ use Rattle.std.specs.Bool.{⊤}
 use Rattle.channel_view_model.specs.declared.command.Outcome.{Outcome}
 use Rattle.channel_view_model.specs.declared.command.Outcome.TheVariants as outcomes
 use Rattle.channel_view_model.specs.Centre.{Centre, Request, reply_to, after}
-use Rattle.channel_view.specs.Requests.{stop_after}
+use Rattle.channel_view_laws.specs.Requests.{stop_after}
 use Rattle.http_office_requests.specs.Piece.{Piece, IsPiece}
 use Rattle.http_office_requests.specs.Request.{Asked, refused, command, request_of}
-use Rattle.http_office.specs.Answer.{status_answer, bytes_of, unavailable_answer}
-use Rattle.http_office.specs.declared.answers.Answer.{Answer}
-use Rattle.http_office.specs.declared.answers.Answer.TheVariants.{Given, Unavailable}
+use Rattle.http_office_answers.specs.Answer.{status_answer, bytes_of}
+use Rattle.http_office_answers.specs.declared.answers.Answer.{Answer}
+use Rattle.http_office_answers.specs.declared.answers.Answer.TheVariants.{Given, Unavailable}
 
 -- what bytes by themselves ask: one piece what it asks, and other bytes are a bad message
 abbrev pub IsAskedBy : List ℕ → Asked → Type 0
@@ -26,11 +26,6 @@ answer_to rows (command channel q) = bytes_of (reply_to rows (channel, q))
 abbrev pub rows_asked : Centre → Asked → Centre
 rows_asked rows (refused status) = rows
 rows_asked rows (command channel q) = after rows (channel, q)
-
--- the bytes of an answer: where memory or the store failed, the constant
-abbrev pub answer_bytes : Answer → List ℕ
-answer_bytes (Given bytes) = bytes.items
-answer_bytes Unavailable = unavailable_answer
 
 -- What is asked is answered, or the office is unavailable.
 abbrev pub Answers : Centre → Asked → Answer → Type 0

@@ -8,7 +8,7 @@ use Rattle.channel_view_model.specs.Store.{WhileClean}
 use Rattle.http_office_requests.specs.Request.{Asked}
 use Rattle.http_office.specs.Message.{IsAskedBy, Answers, rows_left, stop_asked}
 use Rattle.http_office.specs.Alone.{kept_commands}
-use Rattle.http_office.specs.declared.answers.Answer.{Answer}
+use Rattle.http_office_answers.specs.declared.answers.Answer.{Answer}
 
 -- each of these messages by itself asks this
 abbrev pub AreAskedBy : List (List ℕ) → List Asked → Type 0

@@ -7,7 +7,7 @@ use Rattle.http_office_requests.specs.Piece.{Piece, IsPartial}
 use Rattle.http_office_requests.specs.Request.{request_of}
 use Rattle.http_office.specs.Run.{HasAnswered}
 use Rattle.http_office.specs.Stream.{Begins, AllGoOn, EndsWithLast, StopsIn, bytes_of_all}
-use Rattle.http_office.specs.declared.answers.Answer.{Answer}
+use Rattle.http_office_answers.specs.declared.answers.Answer.{Answer}
 use Rattle.http_office.specs.declared.serving.End.{End}
 use Rattle.http_office.specs.declared.serving.End.TheVariants.{Closed, CutShort, Refused, TurnsSpent}
 use Rattle.http_office.specs.declared.serving.ServeFault.{ServeFault}

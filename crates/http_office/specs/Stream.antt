@@ -3,8 +3,8 @@ use Rattle.std.specs.Prelude.{◌≡◌, ℕ, ◌⊎◌, Bool, true, false, List
 use Rattle.std.specs.Bool.{⊤}
 use Rattle.std.specs.List.{concat}
 use Rattle.http_office_requests.specs.Piece.{Piece, message, last, IsPiece, IsPartial}
-use Rattle.http_office.specs.Message.{answer_bytes}
-use Rattle.http_office.specs.declared.answers.Answer.{Answer}
+use Rattle.http_office_answers.specs.Answer.{answer_bytes}
+use Rattle.http_office_answers.specs.declared.answers.Answer.{Answer}
 
 -- whether more may follow a piece (RFC 9112, section 9)
 abbrev pub goes_on : Piece → Bool

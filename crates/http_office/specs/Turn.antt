@@ -5,12 +5,12 @@ use Rattle.std.specs.Io.KnownBytes.{Consumes, Appends, Keeps, IsAtEnd}
 use Rattle.channel_view_model.specs.Centre.{Centre}
 use Rattle.http_office_requests.specs.Piece.{Piece, IsPiece, IsPartial}
 use Rattle.http_office_requests.specs.Request.{request_of}
-use Rattle.http_office.specs.Message.{answer_bytes}
+use Rattle.http_office_answers.specs.Answer.{answer_bytes}
 use Rattle.http_office_requests.specs.FoundPiece.{IsFramingProgress}
 use Rattle.http_office.specs.Run.{HasAnswered}
 use Rattle.http_office.specs.Stream.{goes_on, Begins, AllGoOn, EndsWithLast, StopsIn, bytes_of_all}
 use Rattle.reports.specs.Output.{AppendsPart}
-use Rattle.http_office.specs.declared.answers.Answer.{Answer}
+use Rattle.http_office_answers.specs.declared.answers.Answer.{Answer}
 use Rattle.http_office_requests.specs.declared.piece.FramingProgress.{FramingProgress}
 use Rattle.http_office.specs.declared.serving.ServeFault.{ServeFault}
 use Rattle.http_office.specs.declared.serving.ServeFault.TheVariants.{Read, Write, Memory}

@@ -3,21 +3,22 @@ ghost use Rattle.std.specs.Prelude.{◌≡◌, ◌++◌, ℕ, Bool, true, List, 
 ghost use Rattle.channel_view_model.specs.Centre.{Centre, Request};
 ghost use Rattle.channel_view_model.specs.Rules.{KeepsRules};
 ghost use Rattle.channel_view_model.specs.Store.{WhileClean};
-ghost use Rattle.channel_view.specs.Runs.{MayRemain};
-ghost use Rattle.channel_view.specs.Parts.{rows_part, requests_part, IsClosed};
+ghost use Rattle.channel_view_laws.specs.Runs.{MayRemain};
+ghost use Rattle.channel_view_laws.specs.Parts.{rows_part, requests_part, IsClosed};
 ghost use Rattle.channel_view_model.specs.Solo.{purge};
 ghost use Rattle.http_office_requests.specs.Piece.{IsPiece, Piece};
 ghost use Rattle.http_office_requests.specs.Request.{Asked, request_of};
-ghost use Rattle.http_office.specs.Message.{IsAskedBy, answer_bytes, rows_left};
+ghost use Rattle.http_office_answers.specs.Answer.{answer_bytes};
+ghost use Rattle.http_office.specs.Message.{IsAskedBy, rows_left};
 ghost use Rattle.http_office.specs.Stream.{IsCut};
 ghost use Rattle.http_office.specs.Run.{HasAnswered, AnswersAll, rows_left_by};
 ghost use Rattle.http_office.specs.Alone.{kept_commands, given_to, SeesAlike, OnBothGiven, in_doubt_behind};
 ghost use Rattle.http_office.specs.Again.{given_asked, given_bytes};
-ghost use Rattle.http_office.specs.declared.answers.Answer.{Answer};
+ghost use Rattle.http_office_answers.specs.declared.answers.Answer.{Answer};
 
-use crate::answers::Answer;
 use crate::messages::answer;
 use channel_view_model::RowStore;
+use http_office_answers::Answer;
 use std::alloc::Global;
 
 /// Bytes begin with one piece at most, whatever follows it.

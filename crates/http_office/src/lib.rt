@@ -9,12 +9,11 @@
 //! same over messages by themselves (`ok`); refused, nothing was done (`err`).
 #![tactic(auto)]
 
-pub mod answers;
 pub mod laws;
 pub mod messages;
 pub mod serving;
 
-pub use answers::Answer;
+pub use http_office_answers::Answer;
 pub use messages::{answer, answer_all, answer_piece};
 pub use serving::{End, ServeFault, serve};
 pub use timecode::Unavailable;

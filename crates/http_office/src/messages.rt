@@ -5,19 +5,20 @@ ghost use Rattle.channel_view_model.specs.Centre.{Centre, Request, view_of, afte
 ghost use Rattle.channel_view_model.specs.Rules.{KeepsRules};
 ghost use Rattle.channel_view_model.specs.Solo.{solo_outcomes, feed, replies_to, purge};
 ghost use Rattle.channel_view_model.specs.Store.{WhileClean};
-ghost use Rattle.channel_view.specs.Parts.{rows_part, IsClosedPart};
-ghost use Rattle.channel_view.specs.Again.{MayBeFound};
+ghost use Rattle.channel_view_laws.specs.Parts.{rows_part, IsClosedPart};
+ghost use Rattle.channel_view_laws.specs.Again.{MayBeFound};
 ghost use Rattle.http_office.specs.Alone.{kept_commands, given_to};
-ghost use Rattle.http_office.specs.Answer.{bytes_of};
+ghost use Rattle.http_office_answers.specs.Answer.{bytes_of};
 ghost use Rattle.http_office_requests.specs.Request.{Asked, refused, command, request_of};
 ghost use Rattle.http_office.specs.Message.{IsAskedBy, Answers, rows_left, stop_asked};
 ghost use Rattle.http_office_requests.specs.FoundPiece.{IsNext, status_of};
 ghost use Rattle.http_office_requests.specs.Found.{IsAsked, OfPiece, len_found};
 ghost use Rattle.http_office.specs.Run.{HasAnswered, AreAskedBy};
 
-use crate::answers::{Answer, reply_answer, status_answer};
-use channel_view::prepare;
 use channel_view_model::{Command, RowStore};
+use channel_view_requests::prepare;
+use http::StatusCode;
+use http_office_answers::{Answer, reply_answer, status_answer};
 use http_office_requests::{
     FoundPiece, FramingProgress, HttpError, ParsedRequest, Routes, ask_message, next_piece,
 };
@@ -69,11 +70,23 @@ fn ask_next(
     }
 }
 
+// The status of a message's own answer.
+fn status_code(status: HttpError) -> StatusCode
+    ensures { result ≡ status_of status }
+{
+    match status {
+        HttpError::BadMessage => StatusCode::BAD_REQUEST,
+        HttpError::NotFound => StatusCode::NOT_FOUND,
+        HttpError::TooLarge => StatusCode::PAYLOAD_TOO_LARGE,
+        HttpError::NotImplemented => StatusCode::NOT_IMPLEMENTED,
+    }
+}
+
 // The answer to a message that asks nothing of a channel.
 fn refuse(alloc: Global, status: HttpError) -> Answer
     ensures { (rows : Centre) → Answers rows (refused (status_of status)) result }
 {
-    match status_answer(alloc, status) {
+    match status_answer(alloc, status_code(status)) {
         Ok(bytes) => Answer::Given(bytes),
         Err(_) => Answer::Unavailable,
     }
@@ -103,7 +116,7 @@ fn answer_command<S: RowStore>(
         return Answer::Unavailable;
     };
     let Some((reply, change)) = prepared else {
-        return match status_answer(alloc, HttpError::NotFound) {
+        return match status_answer(alloc, StatusCode::NOT_FOUND) {
             Ok(bytes) => Answer::Given(bytes),
             Err(_) => Answer::Unavailable,
         };

@@ -1,5 +1,2 @@
-pub mod NameLemmas
-mod CountLemmas
 mod PlanLemmas
-pub mod TellingLemmas
-mod FileLemmas
+mod OfficeLemmas

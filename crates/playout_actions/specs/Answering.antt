@@ -11,16 +11,16 @@ use Rattle.http_office_requests.specs.Piece.{Piece}
 use Rattle.http_office_requests.specs.Request.{request_of}
 use Rattle.http_office.specs.Run.{AnswersAll, rows_left_by, stop_after_messages}
 use Rattle.http_office.specs.Serving.{IsServed}
-use Rattle.http_office.specs.declared.answers.Answer.{Answer}
+use Rattle.http_office_answers.specs.declared.answers.Answer.{Answer}
 use Rattle.http_office.specs.declared.serving.End.{End}
 use Rattle.http_office.specs.declared.serving.ServeFault.{ServeFault}
 use Rattle.http_office.specs.declared.serving.ServeFault.TheVariants as serve_fault
-use Rattle.playout_actions.specs.declared.fault.Fault.{Fault}
-use Rattle.playout_actions.specs.declared.fault.Fault.TheVariants.{Label, List as OfList, Refused, NoChannel, Open}
-use Rattle.playout_actions.specs.declared.fault.Fault.TheVariants.{Listen, Stream}
-use Rattle.playout_actions.specs.declared.streams.InputFault.TheVariants as input
-use Rattle.playout_actions.specs.declared.streams.StreamFault.{StreamFault}
-use Rattle.playout_actions.specs.declared.streams.StreamFault.TheVariants.{Input, Write}
+use Rattle.playout_lists.specs.declared.fault.Fault.{Fault}
+use Rattle.playout_lists.specs.declared.fault.Fault.TheVariants.{Label, List as OfList, Refused, NoChannel, Open}
+use Rattle.playout_lists.specs.declared.fault.Fault.TheVariants.{Listen, Stream}
+use Rattle.playout_lists.specs.declared.streams.InputFault.TheVariants as input
+use Rattle.playout_lists.specs.declared.streams.StreamFault.{StreamFault}
+use Rattle.playout_lists.specs.declared.streams.StreamFault.TheVariants.{Input, Write}
 
 -- these texts are these plan rows
 abbrev pub ArePlanTexts : List (List ℕ) → List PlanRow → Type 0

@@ -1,14 +1,3 @@
-pub mod Streams
-pub mod Limits
-pub mod Fault
-pub mod Telling
 pub mod Answering
-pub mod Counts
-pub mod Checking
-pub mod Printing
-pub mod Counting
-pub mod Listing
-pub mod Named
-pub mod Comparing
 pub mod Tables
 pub mod Office

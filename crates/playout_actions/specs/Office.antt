@@ -9,23 +9,23 @@ use Rattle.edl.specs.Texts.{texts_of}
 use Rattle.timecode.specs.declared.rates.Rate.{Rate}
 use Rattle.timecode.specs.LabelReading.{reading_of_text}
 use Rattle.http_office.specs.declared.serving.End.{End}
-use Rattle.playout_actions.specs.declared.fault.Fault.{Fault}
-use Rattle.playout_actions.specs.declared.fault.Fault.TheVariants.{Refused, Stream}
-use Rattle.playout_actions.specs.declared.streams.StreamFault.TheVariants.{Write}
+use Rattle.playout_lists.specs.declared.fault.Fault.{Fault}
+use Rattle.playout_lists.specs.declared.fault.Fault.TheVariants.{Refused, Stream}
+use Rattle.playout_lists.specs.declared.streams.StreamFault.TheVariants.{Write}
 use Rattle.channel_plan.specs.declared.refusal.Code.TheVariants as code
 use Rattle.channel_plan.specs.Refusal.{refused}
-use Rattle.playout_actions.specs.Fault.{line_of}
-use Rattle.playout_actions.specs.Telling.{Told, Tells, has_told}
-use Rattle.playout_actions.specs.declared.fault_writer.FaultLines.{FaultLines}
-use Rattle.playout_actions.specs.declared.fault_writer.FaultWriter.{Ghosts}
+use Rattle.playout_lists.specs.Fault.{line_of}
+use Rattle.playout_lists.specs.Telling.{Told, Tells, has_told}
+use Rattle.playout_lists.specs.declared.fault_writer.FaultLines.{FaultLines}
+use Rattle.playout_lists.specs.declared.fault_writer.FaultWriter.{Ghosts}
 use Rattle.playout_actions.specs.Answering.{ServesPlan, AnswerHas}
-use Rattle.playout_actions.specs.Checking.{ChecksInput, CheckHas}
-use Rattle.playout_actions.specs.Printing.{PrintHas}
-use Rattle.playout_actions.specs.Counting.{CountsInput, CountHas}
-use Rattle.playout_actions.specs.Listing.{ListsInput}
-use Rattle.playout_actions.specs.Named.{ChecksFiles, Holds, StopsAtFile}
-use Rattle.playout_actions.specs.Comparing.{ComparesFiles, TellsComparing, WriteHas}
-use Rattle.playout_actions.specs.declared.comparing.CompareFault.{CompareFault}
+use Rattle.playout_lists.specs.Checking.{ChecksInput, CheckHas}
+use Rattle.playout_lists.specs.Printing.{PrintHas}
+use Rattle.playout_lists.specs.Counting.{CountsInput, CountHas}
+use Rattle.playout_lists.specs.Listing.{ListsInput}
+use Rattle.playout_lists.specs.Named.{ChecksFiles, Holds, StopsAtFile}
+use Rattle.playout_lists.specs.Comparing.{ComparesFiles, TellsComparing, WriteHas}
+use Rattle.playout_lists.specs.declared.comparing.CompareFault.{CompareFault}
 use Rattle.playout_args.specs.declared.words.EventForm.{EventForm}
 use Rattle.playout_args.specs.Words.{AreRead}
 use Rattle.playout_args.specs.declared.words.Action.{Action}

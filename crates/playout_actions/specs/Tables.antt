@@ -11,10 +11,10 @@ use Rattle.channel_view_model.specs.declared.table.Table.TheVariants as kind
 use Rattle.channel_view_model.specs.declared.view.View.{View}
 use Rattle.playout_args.specs.declared.words.TableName.{TableName}
 use Rattle.playout_args.specs.declared.words.TableName.TheVariants as word
-use Rattle.playout_actions.specs.declared.fault.Fault.{Fault}
-use Rattle.playout_actions.specs.declared.fault.Fault.TheVariants.{Label, List as OfList, Refused, NoChannel, Open}
-use Rattle.playout_actions.specs.declared.fault.Fault.TheVariants.{Listen, Stream}
-use Rattle.playout_actions.specs.declared.streams.StreamFault.TheVariants.{Input, Write}
+use Rattle.playout_lists.specs.declared.fault.Fault.{Fault}
+use Rattle.playout_lists.specs.declared.fault.Fault.TheVariants.{Label, List as OfList, Refused, NoChannel, Open}
+use Rattle.playout_lists.specs.declared.fault.Fault.TheVariants.{Listen, Stream}
+use Rattle.playout_lists.specs.declared.streams.StreamFault.TheVariants.{Input, Write}
 
 -- the table that a word names
 abbrev pub table_of : TableName → Table

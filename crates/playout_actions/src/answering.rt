@@ -9,12 +9,11 @@ ghost use Rattle.http_office.specs.declared.serving.End.{End};
 ghost use Rattle.http_office.specs.declared.serving.ServeFault.{ServeFault};
 ghost use Rattle.playout_actions.specs.Answering.{ArePlanTexts, RefusesPlan, ServesPlan, AnswerHas, stream_fault_of};
 
-use crate::fault::Fault;
-use crate::streams::StreamFault;
 use channel_plan::{Code, PlanRow, Refusal, is_plan};
 use channel_view::MemRows;
 use channel_view_model::RowStore;
-use http_office::serving::serve;
+use http_office::serving::{ServeFault, serve};
+use playout_lists::{Fault, InputFault, StreamFault};
 use std::alloc::Global;
 use std::io::{Read, Write};
 
@@ -51,6 +50,17 @@ pub fn plan_of(alloc: Global, texts: &[&str]) -> Result<Vec<PlanRow>, Refusal>
     }
 }
 
+// A served stream's fault, as it is told.
+fn stream_fault(fault: ServeFault) -> StreamFault
+    ensures { result ≡ stream_fault_of fault }
+{
+    match fault {
+        ServeFault::Read => StreamFault::Input(InputFault::Read),
+        ServeFault::Write => StreamFault::Write,
+        ServeFault::Memory => StreamFault::Input(InputFault::Unavailable),
+    }
+}
+
 /// Answers the messages of an input over the store, one after another, and writes their answers.
 pub fn answer_over<S: RowStore, R: Read, W: Write>(
     alloc: Global,
@@ -66,7 +76,7 @@ pub fn answer_over<S: RowStore, R: Read, W: Write>(
 {
     match serve(alloc, store, input, output) {
         Ok(_) => Ok(()),
-        Err(fault) => Err(StreamFault::from(fault)),
+        Err(fault) => Err(stream_fault(fault)),
     }
 }
 

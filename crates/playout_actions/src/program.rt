@@ -3,14 +3,14 @@ ghost use Rattle.std.specs.Prelude.{◌≡◌, ◌≤◌, None, map, string_byte
 ghost use Rattle.edl.specs.Texts.{texts_of};
 ghost use Rattle.playout_actions.specs.Office.{Office, DoesAsked, DoesCompare, DoesFiles, DoesLabel, DoesWords};
 ghost use Rattle.playout_actions.specs.Office.{Explains, office_of};
-ghost use Rattle.playout_actions.specs.Telling.{has_told};
+ghost use Rattle.playout_lists.specs.Telling.{has_told};
 
-use crate::comparing::compared_status;
-use crate::{
-    Fault, FaultLines, FaultWriter, Lists, StreamFault, answer_input, check_files, check_input,
-    compare_files, count_lines, exit_status, list_input, print_frame, served_status,
-};
+use crate::answering::answer_input;
 use playout_args::{Action, NoAction, read_words};
+use playout_lists::{
+    Fault, FaultLines, FaultWriter, Lists, StreamFault, check_files, check_input, compare_files,
+    compared_status, count_lines, exit_status, list_input, print_frame, served_status,
+};
 use reports::send;
 use std::alloc::Global;
 use std::io::{Read, Write};

@@ -3,10 +3,9 @@ ghost use Rattle.std.specs.Prelude.{◌≡◌, OnOk, IfErr};
 ghost use Rattle.channel_view_model.specs.Store.{WhileClean};
 ghost use Rattle.playout_actions.specs.Tables.{PrintsTable, TableHas, IsTableFault, table_of};
 
-use crate::fault::Fault;
-use crate::streams::StreamFault;
 use channel_view_model::{RowStore, Table, TableFault};
 use playout_args::TableName;
+use playout_lists::{Fault, StreamFault};
 use std::io::Write;
 
 /// The table that a word names.

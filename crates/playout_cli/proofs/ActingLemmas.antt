@@ -13,14 +13,14 @@ use Rattle.station_tables.specs.Store.{LeavesFound}
 use Rattle.playout_args.specs.declared.words.Action.{Action}
 use Rattle.playout_args.specs.declared.words.Action.TheVariants as asks
 use Rattle.playout_args.specs.declared.words.NoAction.{NoAction}
-use Rattle.playout_actions.specs.Fault.{line_of}
-use Rattle.playout_actions.specs.Named.{Holds as Gives}
+use Rattle.playout_lists.specs.Fault.{line_of}
+use Rattle.playout_lists.specs.Named.{Holds as Gives}
 use Rattle.playout_actions.specs.Office.{Office, Concludes, DoesAsked}
 use Rattle.playout_actions.specs.Tables.{PrintsTable, TableHas}
-use Rattle.playout_actions.specs.Telling.{Told, Tells}
-use Rattle.playout_actions.specs.declared.fault.Fault.{Fault}
-use Rattle.playout_actions.specs.declared.fault.Fault.TheVariants.{Label, List as OfList, Refused, NoChannel, Open}
-use Rattle.playout_actions.specs.declared.fault.Fault.TheVariants.{Listen, Stream}
+use Rattle.playout_lists.specs.Telling.{Told, Tells}
+use Rattle.playout_lists.specs.declared.fault.Fault.{Fault}
+use Rattle.playout_lists.specs.declared.fault.Fault.TheVariants.{Label, List as OfList, Refused, NoChannel, Open}
+use Rattle.playout_lists.specs.declared.fault.Fault.TheVariants.{Listen, Stream}
 use Rattle.playout_cli.specs.Acting.{Known, known_of, ActsOnPort, ActsOver, DoesAll, file_of}
 use Rattle.playout_cli.specs.Kept.{BeginsWith}
 use Rattle.station_tables.specs.Opens.{RefusesToOpen}

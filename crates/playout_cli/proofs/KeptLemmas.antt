@@ -12,7 +12,7 @@ use Rattle.station_tables.specs.declared.connected.SqlRows.{SqlRows}
 use Rattle.station_tables.specs.declared.finding.Version.{Version}
 use Rattle.station_tables.specs.Opening.{HasTablesOf, rows_at}
 use Rattle.station_tables.specs.Store.{LeavesFound, StandsWithPlan, store_plan, store_state}
-use Rattle.station_tables.specs.Tables.{LeavesDatabase}
+use Rattle.station_tables_writing.specs.Tables.{LeavesDatabase}
 use Rattle.playout_cli.specs.Kept.{BeginsWith}
 
 -- with no plan row the database is that of a centre

@@ -19,13 +19,13 @@ use Rattle.http_office.specs.declared.serving.End.{End}
 use Rattle.http_office.specs.declared.serving.ServeFault.{ServeFault}
 use Rattle.playout_actions.specs.Answering.{ServesOn}
 use Rattle.playout_actions.specs.Tables.{IsTableFault}
-use Rattle.playout_actions.specs.Telling.{Told}
+use Rattle.playout_lists.specs.Telling.{Told}
 use Rattle.playout_peers.specs.Wire.{unknown}
 use Rattle.playout_peers.specs.Peers.{ServesPeers, asked_in, answers_in}
-use Rattle.playout_actions.specs.declared.fault.Fault.{Fault}
-use Rattle.playout_actions.specs.declared.fault.Fault.TheVariants.{Label, List as OfList, Refused, NoChannel, Open}
-use Rattle.playout_actions.specs.declared.fault.Fault.TheVariants.{Listen, Stream}
-use Rattle.playout_actions.specs.declared.streams.StreamFault.TheVariants.{Write}
+use Rattle.playout_lists.specs.declared.fault.Fault.{Fault}
+use Rattle.playout_lists.specs.declared.fault.Fault.TheVariants.{Label, List as OfList, Refused, NoChannel, Open}
+use Rattle.playout_lists.specs.declared.fault.Fault.TheVariants.{Listen, Stream}
+use Rattle.playout_lists.specs.declared.streams.StreamFault.TheVariants.{Write}
 use Rattle.station_tables.specs.Opens.{RefusesToOpen, RefusesToCreate}
 use Rattle.playout_cli.specs.Refusing.{RefusesTables}
 use Rattle.playout_cli.specs.Serving.{AreKept, PortHas, PortOverHas, ServesOver, PrintHas, IsPort, SaysPort}

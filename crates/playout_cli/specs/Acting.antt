@@ -13,19 +13,19 @@ use Rattle.channel_view_model.specs.Centre.{Centre}
 use Rattle.http_office.specs.declared.serving.End.{End}
 use Rattle.station_tables_statements.specs.Rows.{StandsFor}
 use Rattle.station_tables.specs.Store.{LeavesFound}
-use Rattle.station_tables.specs.Tables.{MayLeave}
+use Rattle.station_tables_writing.specs.Tables.{MayLeave}
 use Rattle.playout_args.specs.Words.{AreRead}
 use Rattle.playout_args.specs.declared.words.Action.{Action}
 use Rattle.playout_args.specs.declared.words.Action.TheVariants as asks
 use Rattle.playout_args.specs.declared.words.NoAction.{NoAction}
 use Rattle.playout_actions.specs.Answering.{ArePlanTexts, RefusesPlan, ServesOn}
-use Rattle.playout_actions.specs.Fault.{line_of}
-use Rattle.playout_actions.specs.Named.{Holds as Gives}
+use Rattle.playout_lists.specs.Fault.{line_of}
+use Rattle.playout_lists.specs.Named.{Holds as Gives}
 use Rattle.playout_actions.specs.Office.{Office, Concludes, DoesAsked, LeavesAll}
 use Rattle.playout_actions.specs.Tables.{PrintsTable, TableHas, table_of}
-use Rattle.playout_actions.specs.Telling.{Tells}
-use Rattle.playout_actions.specs.declared.fault.Fault.{Fault}
-use Rattle.playout_actions.specs.declared.fault.Fault.TheVariants.{Refused}
+use Rattle.playout_lists.specs.Telling.{Tells}
+use Rattle.playout_lists.specs.declared.fault.Fault.{Fault}
+use Rattle.playout_lists.specs.declared.fault.Fault.TheVariants.{Refused}
 use Rattle.playout_cli.specs.Kept.{BeginsWith}
 use Rattle.playout_cli.specs.Refusing.{RefusesTables}
 use Rattle.playout_cli.specs.Serving.{FindsNone, PrintHas, TablesHave, ServesOver, PortOverHas, SaysPort, most_of}

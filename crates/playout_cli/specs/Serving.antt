@@ -7,12 +7,12 @@ use Rattle.channel_plan.specs.declared.refusal.Refusal.{Refusal}
 use Rattle.channel_plan.specs.Refusal.{refused}
 use Rattle.channel_view_model.specs.Centre.{Centre}
 use Rattle.http_office.specs.declared.serving.ServeFault.{ServeFault}
-use Rattle.playout_actions.specs.declared.fault.Fault.{Fault}
-use Rattle.playout_actions.specs.declared.fault.Fault.TheVariants.{Label, List as OfList, Refused, NoChannel, Open}
-use Rattle.playout_actions.specs.declared.fault.Fault.TheVariants.{Listen, Stream}
-use Rattle.playout_actions.specs.declared.streams.StreamFault.TheVariants.{Write}
+use Rattle.playout_lists.specs.declared.fault.Fault.{Fault}
+use Rattle.playout_lists.specs.declared.fault.Fault.TheVariants.{Label, List as OfList, Refused, NoChannel, Open}
+use Rattle.playout_lists.specs.declared.fault.Fault.TheVariants.{Listen, Stream}
+use Rattle.playout_lists.specs.declared.streams.StreamFault.TheVariants.{Write}
 use Rattle.playout_actions.specs.Answering.{ServesOn, stream_fault_of}
-use Rattle.playout_actions.specs.Telling.{Told}
+use Rattle.playout_lists.specs.Telling.{Told}
 use Rattle.playout_peers.specs.Wire.{unknown}
 use Rattle.playout_peers.specs.Peers.{Done, Ending, AreServed, asked_in, answers_in}
 use Rattle.reports.specs.Output.{AppendsPart}

@@ -3,7 +3,7 @@ ghost use Rattle.std.specs.Prelude.{◌≡◌, ◌≤◌, false, map, option_map
 ghost use Rattle.sqlite.specs.Held.{state};
 ghost use Rattle.edl.specs.Texts.{texts_of};
 ghost use Rattle.playout_actions.specs.Office.{office_of};
-ghost use Rattle.playout_actions.specs.Telling.{has_told};
+ghost use Rattle.playout_lists.specs.Telling.{has_told};
 ghost use Rattle.playout_cli.specs.Acting.{ActsOn, ActsOnFile, ActsOver, ActsOnWords, known_of};
 ghost use Rattle.playout_cli.specs.Acting.{file_of as file_asked, rows_for as rows_asked};
 
@@ -12,10 +12,9 @@ use crate::machine::{Files, Ports};
 use crate::serve::{ServeAsked, serve_tables};
 use crate::table::print_stored_table;
 use channel_plan::PlanRow;
-use playout_actions::{
-    Fault, FaultLines, FaultWriter, Lists, do_asked, exit_status, plan_of, served_status, table_of,
-};
+use playout_actions::{do_asked, plan_of, table_of};
 use playout_args::{Action, read_words};
+use playout_lists::{Fault, FaultLines, FaultWriter, Lists, exit_status, served_status};
 use sqlite::{Alter, Connection, File, FileStore};
 use sqlite_trees::store::Store;
 use std::alloc::Global;

@@ -11,12 +11,13 @@ ghost use Rattle.playout_actions.specs.Answering.{ServesOn};
 ghost use Rattle.playout_cli.specs.Kept.{BeginsWith};
 ghost use Rattle.playout_cli.specs.Refusing.{RefusesTables};
 ghost use Rattle.playout_cli.specs.Serving.{TablesHave, FindsNone};
-ghost use Rattle.station_tables.specs.Tables.{MayLeave};
+ghost use Rattle.station_tables_writing.specs.Tables.{MayLeave};
 
 use crate::machine::Files;
 use crate::vaults::with_vaults;
 use channel_plan::{Code, PlanRow, Refusal};
-use playout_actions::{Fault, answer_over};
+use playout_actions::answer_over;
+use playout_lists::Fault;
 use rows_at_hand::RecentDays;
 use sqlite::{Alter, Connection, File, FileStore};
 use sqlite_trees::store::Store;

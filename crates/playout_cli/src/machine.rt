@@ -2,14 +2,14 @@
 //!
 //! All else that the program does goes to the reader and the writers that it is handed. Of a machine no contract knows
 //! which tables a file holds. So [`Files::holds`] stands for that, and each clause above is of any machine. The same
-//! holds of the lists that words name (`playout_actions::Lists`).
+//! holds of the lists that words name (`playout_lists::Lists`).
 ghost use Rattle.std.specs.Prelude.{◌≡◌, ◌∷◌, [], ℕ, List, false, IfOk, IfErr};
 ghost use Rattle.std.specs.Net.Addr.{ipv4_octets};
 ghost use Rattle.sqlite.specs.State.{State};
 ghost use Rattle.sqlite.specs.Held.{state};
 ghost use Rattle.playout_cli.specs.Serving.{IsPort, OpenHas};
 
-use playout_actions::{Fault, Lists};
+use playout_lists::{Fault, Lists};
 use playout_peers::Sockets;
 use sqlite::{Connection, Error, ErrorCode, File, FileStore};
 use sqlite_trees::store::Store;

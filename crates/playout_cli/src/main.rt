@@ -26,7 +26,7 @@ mod vaults;
 
 use acting::program;
 use machine::Host;
-use playout_actions::{Fault, FaultLines, exit_status};
+use playout_lists::{Fault, FaultLines, exit_status};
 use std::process::ExitCode;
 use std::{env, io};
 

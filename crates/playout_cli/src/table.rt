@@ -14,7 +14,8 @@ ghost use Rattle.station_tables.specs.Opens.{RefusesToOpen};
 ghost use Rattle.playout_cli.specs.Serving.{PrintHas};
 
 use channel_view_model::Table;
-use playout_actions::{Fault, print_table};
+use playout_actions::print_table;
+use playout_lists::Fault;
 use sqlite::{Alter, Connection};
 use station_tables::SqlRows;
 use std::alloc::Global;

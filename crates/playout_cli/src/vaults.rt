@@ -8,7 +8,7 @@ ghost use Rattle.rows_at_hand.specs.Counted.{AreCounted};
 ghost use Rattle.rows_at_hand.specs.Vaults.{vaults_in};
 ghost use Rattle.station_tables_reading.specs.Vaults.{bytes_of};
 ghost use Rattle.station_tables.specs.Store.{StandsWithPlan};
-ghost use Rattle.station_tables.specs.Tables.{MayLeave};
+ghost use Rattle.station_tables_writing.specs.Tables.{MayLeave};
 ghost use Rattle.playout_cli.specs.Vaults.{most_vault_bytes};
 
 use channel_view::MemRows;

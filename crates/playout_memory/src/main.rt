@@ -5,7 +5,8 @@
 //! tables, so it is proved long before that one, and gives a clone's first answers (`./playout`, `./preview`).
 #![tactic(auto)]
 
-use playout_actions::{Fault, FaultLines, Lists, exit_status, office};
+use playout_actions::office;
+use playout_lists::{Fault, FaultLines, Lists, exit_status};
 use std::fs::File;
 use std::process::ExitCode;
 use std::{env, io};

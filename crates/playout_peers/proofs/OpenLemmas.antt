@@ -8,10 +8,10 @@ use Rattle.std.proofs.KnownBytes.{Appends-nil, Appends-trans, Consumes-trans}
 use Rattle.std.proofs.Math.Seq.{take-add}
 use Rattle.std.proofs.lemmas.List.{take_all}
 use Rattle.http_office_requests.specs.Piece.{Piece, IsPiece, IsPartial}
-use Rattle.http_office.specs.Answer.{unavailable_answer}
-use Rattle.http_office.specs.Message.{answer_bytes}
+use Rattle.http_office_answers.specs.Answer.{unavailable_answer}
+use Rattle.http_office_answers.specs.Answer.{answer_bytes}
 use Rattle.http_office.specs.Stream.{goes_on, Begins, AllGoOn, EndsWithLast, bytes_of_all}
-use Rattle.http_office.specs.declared.answers.Answer.{Answer}
+use Rattle.http_office_answers.specs.declared.answers.Answer.{Answer}
 use Rattle.http_office.specs.declared.serving.End.{End}
 use Rattle.http_office.specs.declared.serving.End.TheVariants as end
 use Rattle.http_office.specs.declared.serving.ServeFault.{ServeFault}

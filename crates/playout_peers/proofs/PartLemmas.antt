@@ -7,10 +7,10 @@ use Rattle.std.proofs.lemmas.List.{map-append}
 use Rattle.std.proofs.lemmas.List.Elements.{filter-append}
 use Rattle.http_office_requests.specs.Piece.{Piece}
 use Rattle.http_office_requests.specs.Request.{request_of}
-use Rattle.http_office.specs.declared.answers.Answer.{Answer}
+use Rattle.http_office_answers.specs.declared.answers.Answer.{Answer}
 use Rattle.http_office.specs.declared.serving.End.{End}
 use Rattle.http_office.specs.declared.serving.ServeFault.{ServeFault}
-use Rattle.playout_actions.specs.declared.streams.InputFault.{InputFault}
+use Rattle.playout_lists.specs.declared.streams.InputFault.{InputFault}
 use Rattle.playout_peers.specs.Peers.{Done, Ending, over, failed, pieces_of, answers_of, asked_in, answers_in, ends_of}
 use Rattle.playout_peers.specs.Peers.{count_of, is_well, are_well, line_at, lines_at}
 

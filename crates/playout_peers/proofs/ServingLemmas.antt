@@ -8,17 +8,17 @@ use Rattle.channel_view_model.specs.Centre.{Centre}
 use Rattle.http_office_requests.specs.Piece.{Piece}
 use Rattle.http_office.specs.Run.{HasAnswered}
 use Rattle.http_office.specs.Stream.{bytes_of_all}
-use Rattle.http_office.specs.declared.answers.Answer.{Answer}
+use Rattle.http_office_answers.specs.declared.answers.Answer.{Answer}
 use Rattle.http_office.specs.declared.serving.End.{End}
 use Rattle.http_office.specs.declared.serving.ServeFault.{ServeFault}
 use Rattle.http_office.proofs.RunLemmas.{did_nothing, did_then}
-use Rattle.playout_actions.specs.Fault.{line_of}
-use Rattle.playout_actions.specs.Telling.{Told, TellsAll, Tells}
-use Rattle.playout_actions.specs.declared.fault.Fault.TheVariants.{Stream}
-use Rattle.playout_actions.specs.declared.streams.InputFault.{InputFault}
-use Rattle.playout_actions.specs.declared.streams.InputFault.TheVariants as input
-use Rattle.playout_actions.specs.declared.streams.StreamFault.TheVariants.{Input}
-use Rattle.playout_actions.proofs.TellingLemmas.{tells_nothing, tells_then}
+use Rattle.playout_lists.specs.Fault.{line_of}
+use Rattle.playout_lists.specs.Telling.{Told, TellsAll, Tells}
+use Rattle.playout_lists.specs.declared.fault.Fault.TheVariants.{Stream}
+use Rattle.playout_lists.specs.declared.streams.InputFault.{InputFault}
+use Rattle.playout_lists.specs.declared.streams.InputFault.TheVariants as input
+use Rattle.playout_lists.specs.declared.streams.StreamFault.TheVariants.{Input}
+use Rattle.playout_lists.proofs.TellingLemmas.{tells_nothing, tells_then}
 use Rattle.playout_peers.specs.Wire.{Wire, LeavesAll, LeavesOthers}
 use Rattle.playout_peers.specs.Peers.{Done, Ending, over, failed, pieces_of, answers_of, asked_in, answers_in, ends_of}
 use Rattle.playout_peers.specs.Peers.{count_of, is_well, are_well, line_at, lines_at, StaysOpen, IsConnection}

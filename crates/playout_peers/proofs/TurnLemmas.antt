@@ -15,7 +15,7 @@ use Rattle.std.specs.Prelude.{false}
 use Rattle.http_office_requests.proofs.PieceLemmas.{one_piece}
 use Rattle.http_office.specs.Run.{HasAnswered}
 use Rattle.http_office.specs.Stream.{goes_on}
-use Rattle.http_office.specs.declared.answers.Answer.{Answer}
+use Rattle.http_office_answers.specs.declared.answers.Answer.{Answer}
 use Rattle.http_office.proofs.RunLemmas.{did_nothing}
 use Rattle.playout_peers.specs.Wire.{Wire}
 use Rattle.playout_peers.specs.Peers.{pieces_of, answers_of}

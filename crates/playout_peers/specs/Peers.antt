@@ -5,21 +5,22 @@ use Rattle.std.specs.Io.KnownBytes.{Consumes, Appends}
 use Rattle.channel_view_model.specs.Centre.{Centre}
 use Rattle.http_office_requests.specs.Piece.{Piece}
 use Rattle.http_office_requests.specs.Request.{Asked, request_of}
-use Rattle.http_office.specs.Answer.{unavailable_answer}
+use Rattle.http_office_answers.specs.Answer.{unavailable_answer}
 use Rattle.http_office.specs.Run.{HasAnswered}
 use Rattle.http_office.specs.Serving.{IsServed}
 use Rattle.http_office.specs.Stream.{Begins, StopsIn, bytes_of_all}
-use Rattle.http_office.specs.declared.answers.Answer.{Answer}
+use Rattle.http_office_answers.specs.declared.answers.Answer.{Answer}
 use Rattle.http_office.specs.declared.serving.End.{End}
 use Rattle.http_office.specs.declared.serving.ServeFault.{ServeFault}
 use Rattle.http_office.specs.declared.serving.ServeFault.TheVariants.{Read, Write, Memory}
 use Rattle.reports.specs.Output.{AppendsPart}
-use Rattle.playout_actions.specs.Answering.{stream_fault_of}
-use Rattle.playout_actions.specs.Fault.{line_of}
-use Rattle.playout_actions.specs.Telling.{Told, TellsAll}
-use Rattle.playout_actions.specs.declared.fault.Fault.TheVariants.{Stream}
-use Rattle.playout_actions.specs.declared.streams.InputFault.{InputFault}
-use Rattle.playout_actions.specs.declared.streams.StreamFault.TheVariants.{Input}
+use Rattle.playout_lists.specs.Fault.{line_of}
+use Rattle.playout_lists.specs.Telling.{Told, TellsAll}
+use Rattle.playout_lists.specs.declared.fault.Fault.TheVariants.{Stream}
+use Rattle.playout_lists.specs.declared.streams.InputFault.{InputFault}
+use Rattle.playout_lists.specs.declared.streams.InputFault.TheVariants as input
+use Rattle.playout_lists.specs.declared.streams.StreamFault.{StreamFault}
+use Rattle.playout_lists.specs.declared.streams.StreamFault.TheVariants.{Input, Write as Written}
 use Rattle.playout_peers.specs.Wire.{Wire}
 
 -- a message that was answered: of which connection, by its number
@@ -68,6 +69,12 @@ is_well (failed fault) = false
 abbrev pub are_well : List Ending → Bool
 are_well [] = true
 are_well (e ∷ ends) = is_well e && are_well ends
+
+-- how a connection's fault is told
+abbrev pub stream_fault_of : ServeFault → StreamFault
+stream_fault_of Read = Input input.Read
+stream_fault_of Write = Written
+stream_fault_of Memory = Input input.Unavailable
 
 -- the lines of the faults
 abbrev pub line_at : Ending → List ℕ

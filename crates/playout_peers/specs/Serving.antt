@@ -3,11 +3,11 @@ use Rattle.std.specs.Prelude.{◌≡◌, ◌≢◌, ◌≤◌, ◌<◌, ◌+◌,
 use Rattle.std.specs.Prelude.{Option, Some, None}
 use Rattle.channel_view_model.specs.Centre.{Centre}
 use Rattle.http_office.specs.Run.{HasAnswered}
-use Rattle.playout_actions.specs.Fault.{line_of}
-use Rattle.playout_actions.specs.Telling.{Told, Tells, TellsAll}
-use Rattle.playout_actions.specs.declared.fault.Fault.TheVariants.{Stream}
-use Rattle.playout_actions.specs.declared.streams.InputFault.TheVariants.{Read}
-use Rattle.playout_actions.specs.declared.streams.StreamFault.TheVariants.{Input}
+use Rattle.playout_lists.specs.Fault.{line_of}
+use Rattle.playout_lists.specs.Telling.{Told, Tells, TellsAll}
+use Rattle.playout_lists.specs.declared.fault.Fault.TheVariants.{Stream}
+use Rattle.playout_lists.specs.declared.streams.InputFault.TheVariants.{Read}
+use Rattle.playout_lists.specs.declared.streams.StreamFault.TheVariants.{Input}
 use Rattle.playout_peers.specs.Wire.{Wire, LeavesAll}
 use Rattle.playout_peers.specs.Peers.{Done, Ending, pieces_of, answers_of, asked_in, answers_in, ends_of, count_of}
 use Rattle.playout_peers.specs.Peers.{are_well, lines_at, IsConnection}

@@ -4,11 +4,11 @@ use Rattle.std.specs.Io.KnownBytes.{Consumes, Appends, IsAtEnd}
 use Rattle.channel_view_model.specs.Centre.{Centre}
 use Rattle.http_office_requests.specs.Piece.{Piece, IsPiece, IsPartial}
 use Rattle.http_office_requests.specs.Request.{request_of}
-use Rattle.http_office.specs.Answer.{unavailable_answer}
-use Rattle.http_office.specs.Message.{answer_bytes}
+use Rattle.http_office_answers.specs.Answer.{unavailable_answer}
+use Rattle.http_office_answers.specs.Answer.{answer_bytes}
 use Rattle.http_office.specs.Run.{HasAnswered}
 use Rattle.http_office.specs.Stream.{goes_on, Begins, AllGoOn, EndsWithLast, bytes_of_all}
-use Rattle.http_office.specs.declared.answers.Answer.{Answer}
+use Rattle.http_office_answers.specs.declared.answers.Answer.{Answer}
 use Rattle.playout_peers.specs.Wire.{Wire}
 use Rattle.playout_peers.specs.Peers.{Done, pieces_of, answers_of, asked_in, answers_in, HasEnded}
 use Rattle.playout_peers.specs.declared.peer.Peer.{Peer}

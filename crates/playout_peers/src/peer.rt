@@ -1,14 +1,15 @@
 //! One connection among many: what it is at, and its turn.
 ghost use Rattle.std.specs.Prelude.{◌≡◌, ◌<◌, ◌≤◌, List, length, drop, IfSome, IfNone};
-ghost use Rattle.http_office.specs.Answer.{unavailable_answer};
-ghost use Rattle.http_office.specs.declared.answers.Answer.{Answer};
+ghost use Rattle.http_office_answers.specs.Answer.{unavailable_answer};
+ghost use Rattle.http_office_answers.specs.declared.answers.Answer.{Answer};
 ghost use Rattle.http_office_requests.specs.Piece.{Piece, IsPartial};
 ghost use Rattle.playout_peers.specs.Wire.{Wire, LeavesOthers};
 ghost use Rattle.playout_peers.specs.Turn.{Heard, Sent, Says, AnswersFront, IsOpen, ComesTo, TakesTurn};
 
 use crate::door::{Door, Seat};
 use channel_view_model::RowStore;
-use http_office::{Answer, End, ServeFault, answer_piece};
+use http_office::{End, ServeFault, answer_piece};
+use http_office_answers::Answer;
 use http_office_requests::{FoundPiece, FramingProgress, Routes, next_piece};
 use std::alloc::Global;
 use std::io::{self, ErrorKind};

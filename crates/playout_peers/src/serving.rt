@@ -1,12 +1,12 @@
 //! Connections that are open at once.
 ghost use Rattle.std.specs.Prelude.{◌≡◌, ◌<◌, ◌≤◌, ◌^◌, ◌-◌, ◌+◌, ◌&&◌, ℕ, [], true, false};
 ghost use Rattle.std.specs.Prelude.{get_or, length, IfSome, IfOk};
-ghost use Rattle.playout_actions.specs.Fault.{line_of};
-ghost use Rattle.playout_actions.specs.Telling.{has_told, Tells, TellsAll};
-ghost use Rattle.playout_actions.specs.declared.fault.Fault.TheVariants.{Stream};
-ghost use Rattle.playout_actions.specs.declared.streams.StreamFault.TheVariants.{Input};
+ghost use Rattle.playout_lists.specs.Fault.{line_of};
+ghost use Rattle.playout_lists.specs.Telling.{has_told, Tells, TellsAll};
+ghost use Rattle.playout_lists.specs.declared.fault.Fault.TheVariants.{Stream};
+ghost use Rattle.playout_lists.specs.declared.streams.StreamFault.TheVariants.{Input};
 ghost use Rattle.playout_peers.specs.Wire.{LeavesAll};
-ghost use Rattle.playout_peers.specs.Peers.{ServesPeers, line_at, over, is_well};
+ghost use Rattle.playout_peers.specs.Peers.{ServesPeers, line_at, over, is_well, stream_fault_of};
 ghost use Rattle.playout_peers.specs.Serving.{GoesOn, Admits, IsNew, KeepsOthers};
 
 use crate::door::{Door, Seat};
@@ -15,7 +15,7 @@ use crate::rota::Rota;
 use channel_view_model::RowStore;
 use http_office::{End, ServeFault};
 use http_office_requests::Routes;
-use playout_actions::{Fault, FaultLines, FaultWriter, InputFault, StreamFault};
+use playout_lists::{Fault, FaultLines, FaultWriter, InputFault, StreamFault};
 use std::alloc::{AllocError, Global};
 use std::io;
 use timecode::Unavailable;
@@ -164,6 +164,17 @@ fn stamped(peer: Peer, then: Then, now: u64) -> Peer
     }
 }
 
+// A connection's fault, as it is told.
+fn stream_fault(fault: ServeFault) -> StreamFault
+    ensures { result ≡ stream_fault_of fault }
+{
+    match fault {
+        ServeFault::Read => StreamFault::Input(InputFault::Read),
+        ServeFault::Write => StreamFault::Write,
+        ServeFault::Memory => StreamFault::Input(InputFault::Unavailable),
+    }
+}
+
 // The fault of a connection that ended so, if it had one, is said. Whether nothing has had a fault then.
 fn report_end<E: FaultWriter>(
     how: Result<End, ServeFault>,
@@ -178,7 +189,7 @@ fn report_end<E: FaultWriter>(
     match how {
         Ok(_) => was_quiet,
         Err(fault) => {
-            faults.report(Fault::Stream(StreamFault::from(fault)));
+            faults.report(Fault::Stream(stream_fault(fault)));
             false
         }
     }

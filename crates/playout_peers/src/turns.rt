@@ -1,14 +1,14 @@
 //! Connections, one after another: the next one is accepted once the one before it has ended.
 ghost use Rattle.std.specs.Prelude.{◌≡◌, true, IfSome};
-ghost use Rattle.playout_actions.specs.Limits.{IsLimited};
-ghost use Rattle.playout_actions.specs.Telling.{has_told};
+ghost use Rattle.playout_lists.specs.Limits.{IsLimited};
+ghost use Rattle.playout_lists.specs.Telling.{has_told};
 ghost use Rattle.playout_peers.specs.Wire.{unknown, WaitedFor};
 ghost use Rattle.playout_peers.specs.Peers.{ServesPeers};
 
 use crate::door::{Door, Seat};
 use crate::serving::{Limits, serve_peers};
 use channel_view_model::RowStore;
-use playout_actions::{FaultLines, FaultWriter, Limited, limit};
+use playout_lists::{FaultLines, FaultWriter, Limited, limit};
 use std::alloc::Global;
 use std::io::{self, ErrorKind, Read, Write};
 use std::net::{TcpListener, TcpStream};

@@ -37,8 +37,9 @@ use Rattle.channel_view_model.proofs.TableLemmas.{rows_of-replace_same, rows_of-
 use Rattle.channel_view_model.proofs.RuleLemmas.{aired_in_order, change_keeps, days_in_order}
 use Rattle.channel_view_model.proofs.AiringRuleLemmas.{sealed_found}
 use Rattle.rows_at_hand.specs.declared.counts.ChannelCounts.{ChannelCounts}
-use Rattle.rows_at_hand.specs.Counted.{AreCounted, IsCounted, Learns, batches_in, batches_told, counts_in, counts_of}
-use Rattle.rows_at_hand.specs.Counted.{counts_seen, counts_text, days_counted, is_channel, left_beside, most_counted}
+use Rattle.channel_view_model.specs.Counts.{counts_of, counts_seen}
+use Rattle.rows_at_hand.specs.Counted.{AreCounted, IsCounted, Learns, batches_in, batches_told, counts_in}
+use Rattle.rows_at_hand.specs.Counted.{counts_text, days_counted, is_channel, left_beside, most_counted}
 use Rattle.rows_at_hand.specs.Counted.{with_batches}
 use Rattle.rows_at_hand.proofs.KnownLemmas.{found_past, found_replaced}
 

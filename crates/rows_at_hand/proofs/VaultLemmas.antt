@@ -54,12 +54,12 @@ use Rattle.channel_view_model.proofs.OwnRuleLemmas.{IsOfDay, day_change_asked, a
 use Rattle.channel_view_model.proofs.RuleLemmas.{change_keeps, in_order}
 use Rattle.channel_view_model.proofs.StepLemmas.{seen_is}
 use Rattle.channel_view_model.proofs.ViewLemmas.{found_channel}
-use Rattle.channel_view_rules.proofs.PlannedLemmas.{rows_planned, planned_all}
+use Rattle.channel_view_model.proofs.PlannedLemmas.{rows_planned, planned_all}
 use Rattle.channel_view.specs.Places.{AreSourcesNumbered}
 use Rattle.channel_view.proofs.GrantPlaceLemmas.{sources_numbered}
-use Rattle.channel_view.proofs.PartTableLemmas.{equal, found-filter, plan_in_order-part, rows_of-part, table-part}
-use Rattle.channel_view.proofs.PartTableLemmas.{replace-in, replace-out}
-use Rattle.channel_view.proofs.PartViewLemmas.{plan_of-part, own_of-part}
+use Rattle.channel_view_laws.proofs.PartTableLemmas.{equal, found-filter, plan_in_order-part, rows_of-part, table-part}
+use Rattle.channel_view_laws.proofs.PartTableLemmas.{replace-in, replace-out}
+use Rattle.channel_view_laws.proofs.PartViewLemmas.{plan_of-part, own_of-part}
 use Rattle.rows_at_hand.specs.declared.vaults.Vault.{Vault}
 use Rattle.rows_at_hand.specs.Vaults.{AreVaults, HasChannel, own_rows, vault_of, vaults_in, vault_at, vault_clips}
 use Rattle.rows_at_hand.specs.Vaults.{is_at_hand, lent_in, with_sources}

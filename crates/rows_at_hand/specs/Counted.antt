@@ -2,25 +2,15 @@
 use Rattle.std.specs.Prelude.{◌≡◌, ◌⊎◌, ℕ, ◌+◌, ◌<◌, ◌≤◌, List, [], ◌∷◌, ◌++◌, Bool, true, false, ◌==◌, nat_le, Option, Some, None}
 use Rattle.std.specs.Prelude.{if◌then◌else◌, find, is_some, length, map}
 use Rattle.std.specs.List.{All, flat_map, sum_by}
-use Rattle.playlist_core.specs.Day.{Day}
-use Rattle.asrun_match.specs.declared.day.DayAsRun.{DayAsRun}
 use Rattle.reports.specs.declared.days.DayCounts.{DayCounts}
-use Rattle.reports.specs.Days.{batches_of, counts_line, day_counts, days_end}
-use Rattle.channel_view_model.specs.declared.view.View.{View}
+use Rattle.reports.specs.Days.{counts_line, days_end}
 use Rattle.channel_view_model.specs.Tables.{rows_of}
 use Rattle.channel_view_model.specs.Centre.{Centre, plan_of}
 use Rattle.channel_view_model.specs.Rules.{KeepsRules}
+use Rattle.channel_view_model.specs.Counts.{counts_of}
 use Rattle.rows_at_hand.specs.declared.counts.ChannelCounts.{ChannelCounts}
 
--- what the days table tells of each of these days, of which this was aired
-abbrev pub counts_of : List DayAsRun → List Day → List DayCounts
-counts_of aired days = map (λ d. day_counts (batches_of aired d.number) d) days
-
--- of each day that a channel sees
-abbrev pub counts_seen : View → List DayCounts
-counts_seen view = counts_of view.aired view.days
-
--- of each day of channel c
+-- what the days table tells of each day of channel c
 abbrev pub counts_in : Centre → ℕ → List DayCounts
 counts_in rows c = counts_of (rows_of c rows.aired) (rows_of c rows.days)
 

@@ -1,33 +1,12 @@
 //! The store that has days tables at hand.
-ghost use Rattle.std.specs.Prelude.{◌≡◌, ◌≤◌, [], IfOk, OnOk};
-ghost use Rattle.std.specs.Option.{option_map};
-ghost use Rattle.channel_view_model.specs.Centre.{Centre, view_of};
-ghost use Rattle.channel_view_model.specs.Rules.{KeepsRules};
-ghost use Rattle.channel_view_model.specs.Store.{WhileClean};
-ghost use Rattle.rows_at_hand.specs.Counted.{AreCounted, counts_seen, days_counted, most_counted};
+ghost use Rattle.std.specs.Prelude.{◌≡◌, ◌≤◌, []};
+ghost use Rattle.rows_at_hand.specs.Counted.{AreCounted, days_counted, most_counted};
 
 use crate::counts::{ChannelCounts, counts_at, follow, learn, write_counts};
-use channel_view_model::{Change, Need, Part, RowStore, Table, TableFault, View};
-use reports::DayCounts;
+use channel_view_model::{Change, CountsDays, Need, Part, RowStore, Table, TableFault, View};
 use std::alloc::Global;
 use std::io::Write;
 use timecode::Unavailable;
-
-/// A store that tells of each of a channel's days what the days table does, without writing it.
-pub trait CountsDays: RowStore {
-    /// What the days table tells of each day of the channel, by number, or `None` where the channel isn't in the plan.
-    fn day_counts(&mut self, channel: u16) -> Result<Option<Vec<DayCounts>>, Unavailable>
-        ensures clean { Self.is_clean self.new → Self.is_clean self.old }
-        ensures counts { WhileClean (Self.is_clean self.new) (Self.stands_for self.old) (λ rows. IfOk result
-            (λ counts. option_map (λ c. c.items) counts ≡ option_map counts_seen (view_of channel rows))) }
-        ensures rules { WhileClean (Self.is_clean self.new) (Self.stands_for self.old)
-            (λ rows. OnOk result (KeepsRules rows)) }
-        ensures same { WhileClean (Self.is_clean self.new) (Self.stands_for self.old)
-            (λ rows. Self.stands_for self.new rows) }
-        ensures stop { Self.is_clean self.new → (left : Centre) → Self.may_leave self.new left →
-            Self.may_leave self.old left }
-        ensures sets { Self.leaves_sets self.old → Self.leaves_sets self.new };
-}
 
 /// A store over another one, which has at hand what the days tables that were asked for tell. Each change goes to the
 /// store below first. Where that fails, nothing is at hand any more.

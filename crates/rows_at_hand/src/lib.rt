@@ -11,7 +11,7 @@
 //!   store below for these only where a look-up would walk over many (`specs/AtHand`). Where that store fails, they aren't
 //!   at hand any more.
 //! - [`CountedDays`] has at hand what the days tables that were asked for tell of each day, over a store that counts days
-//!   ([`CountsDays`]): a day's items are counted as it changes, and no longer for each table (`specs/Counted`).
+//!   (`CountsDays`): a day's items are counted as it changes, and no longer for each table (`specs/Counted`).
 //!
 //! Of days tables at most [`MOST_COUNTED`] days are told; where another table comes for which there is no room, the others
 //! go. At hand are at most [`MOST_DAYS`] days with at most [`MOST_ROWS`] rows (`few`, `few_rows`). Those that were asked for
@@ -28,7 +28,7 @@ mod recent;
 mod vaults;
 
 pub use at_hand::VaultsAtHand;
-pub use counted::{CountedDays, CountsDays};
+pub use counted::CountedDays;
 pub use counts::MOST_COUNTED;
 pub use known::{MOST_DAYS, MOST_ROWS};
 pub use recent::RecentDays;

@@ -1,4 +1,4 @@
--- What the open says of a refusal that it hands on, and of the rows of days where the rules hold.
+-- What the open says of a refusal, and of the rows of days where the rules hold.
 use Rattle.std.proofs.Common.{◌≡◌, ◌⊎◌, inl, inr, ℕ, ℤ, pos, IsTrue, Bool, true, false, true≢false, List, [], ◌∷◌, map}
 use Rattle.std.proofs.Common.{Result, Ok, Err, IfErr, OnOk, refl, sym, ap, ◌∙◌, subst, arith}
 use Rattle.std.specs.Prelude.{◌==◌, ◌&&◌, ◌||◌, IfOk, slice_index_or}
@@ -61,11 +61,6 @@ use Rattle.station_tables_records.specs.declared.offer_rows.SpanRow.{SpanRow}
 use Rattle.station_tables_records.specs.MadeOffers.{offer_made, offers_made, has_offer}
 use Rattle.station_tables_statements.proofs.FitLemmas.{offers_fit}
 use Rattle.station_tables.proofs.AiringOpenLemmas.{makes_airings, batches_fit, lines_fit}
-
--- what is said of the error that `?` hands on
-pub handed_on : {X E : Type 0} (P : E → Type 0) (e : E) (r : Result X E) → IsErrAnd r (λ v. v ≡ e) → P e → IfErr r P
-handed_on P e (Ok x) same h = tt
-handed_on P e (Err v) same h = subst P (sym same) h
 
 -- the days are those of channels that are there
 planned_days : (plan : List PlanRow) (items : List (ℕ × ItemRow)) (days : List (ℕ × DayRow))

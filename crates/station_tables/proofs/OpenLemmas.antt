@@ -14,13 +14,13 @@ use Rattle.station_tables_statements.specs.First.{HasFirstSet, HoldsFirstSet, ro
 use Rattle.station_tables_statements.specs.Rows.{Holds, HoldsSet, Stands, rows_of_tables}
 use Rattle.station_tables_statements.specs.Calls.{HasCentreSchema, HasFirstSchema, HasKnownSchema}
 use Rattle.station_tables_statements.specs.Standing.{IsAlone, IsFault, OnCode}
-use Rattle.station_tables.specs.Tables.{LeavesCommitted, MayLeave}
+use Rattle.station_tables_writing.specs.Tables.{LeavesCommitted, MayLeave}
 use Rattle.station_tables.specs.declared.finding.Version.{Version}
 use Rattle.station_tables.specs.declared.finding.Version.TheVariants.{First, Second}
 use Rattle.station_tables.specs.Opening.{CommitsShown, HasTablesOf, IsCentreIn, IsCentreOf, database_in}
 use Rattle.station_tables.specs.Opening.{number_of, rows_at}
 use Rattle.station_tables.proofs.FindLemmas.{known_of}
-use Rattle.station_tables.proofs.StandLemmas.{leaves_alone}
+use Rattle.station_tables_writing.proofs.StandLemmas.{leaves_alone}
 use Rattle.station_tables.specs.Opens.{Opens, RefusesToOpen}
 use Rattle.station_tables.specs.Store.{LeavesFound}
 use Rattle.station_tables.proofs.StopLemmas.{left_by, no_other, only_short, tables_of}

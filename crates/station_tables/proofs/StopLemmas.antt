@@ -14,7 +14,7 @@ use Rattle.station_tables_statements.specs.First.{IsFirstCentre}
 use Rattle.station_tables_records.specs.OfficeRow.{HasVersion}
 use Rattle.station_tables_statements.specs.Rows.{Holds, IsCentre}
 use Rattle.station_tables_statements.specs.Standing.{IsFault}
-use Rattle.station_tables.specs.Tables.{LeavesSets}
+use Rattle.station_tables_writing.specs.Tables.{LeavesSets}
 use Rattle.station_tables.specs.declared.finding.Version.{Version}
 use Rattle.station_tables.specs.declared.finding.Version.TheVariants.{First, Second}
 use Rattle.station_tables.specs.Opening.{HasTablesOf, IsCentreIn, IsCentreOf, database_in, rows_at}

@@ -1,6 +1,5 @@
 pub mod Store
 pub mod Opens
-pub mod Tables
 pub mod Opening
 pub mod Found
 pub mod Parts

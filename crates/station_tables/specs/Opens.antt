@@ -16,7 +16,7 @@ use Rattle.station_tables_records.specs.Schema.{no_schema}
 use Rattle.station_tables_statements.specs.Calls.{HasCentreSchema, HasKnownSchema}
 use Rattle.station_tables_statements.specs.Rows.{BeginsBare, Holds, Stands, plan_in_order}
 use Rattle.station_tables_statements.specs.Standing.{IsAlone}
-use Rattle.station_tables.specs.Tables.{LeavesDatabase, LeavesSets, MayLeave}
+use Rattle.station_tables_writing.specs.Tables.{LeavesDatabase, LeavesSets, MayLeave}
 use Rattle.station_tables.specs.declared.finding.Version.{Version}
 use Rattle.station_tables.specs.Opening.{HasTablesOf, IsCentreIn, IsCentreOf, number_of, rows_at}
 use Rattle.station_tables.specs.Store.{LeavesCentres, LeavesFound}

@@ -28,11 +28,10 @@
 //! for sets with this plan alone (`StandsWithPlan`). [`SqlRows::vaults`] reads the tapes, the clips and the offers of all
 //! channels, where they take few enough bytes, for a store over this one that has them at hand (`vaults`, `few`).
 //!
-//! Each call is one transaction on a connection with none open: those that commit, and the one that tests what is
-//! opened, before it is taken for a centre: its version, that each of its tables' rows reads, and that the set which
-//! they make keeps the rules. A change of a day writes what differs, and reads nothing (`writes`, `puts`): its premise is
-//! that the change is one from the day that the rows make (`ComesFromNow`), as each change is that a command decides.
-//! What was aired gets the batch that came, with its rows as its lines. Refused, a call leaves what was committed.
+//! Each call is one transaction on a connection with none open: those that commit (`station_tables_writing`), and the one
+//! that tests what is opened, before it is taken for a centre: its version, that each of its tables' rows reads, and
+//! that the set which they make keeps the rules. What a channel sees is read whole (`station_tables_reading`) and tested
+//! likewise (`shows`): rows that break a rule are answered `Unavailable`. Refused, a call leaves what was committed.
 //!
 //! 98 is answered only where there is a version other than 1 and 2 (`version`), 97 never where there is
 //! (`known`), nor to a centre whose rows keep the rules (`ours`). What a stop leaves of a store opens, or is
@@ -40,20 +39,15 @@
 //! (`open_after_refusal`).
 #![tactic(auto)]
 
-mod airing_writing;
-mod applying;
 mod by_channel;
 mod connected;
-mod creating;
-mod day_writing;
 mod finding;
-mod founding;
 mod loading;
 mod memory;
-mod migrating;
 mod opening;
 mod stopped;
 mod store;
+mod view_testing;
 
 pub use connected::SqlRows;
 pub use finding::Version;

@@ -6,18 +6,19 @@ ghost use Rattle.sqlite.specs.State.{HasCleanDisk, Survives};
 ghost use Rattle.sqlite.specs.Held.{state};
 ghost use Rattle.channel_view_model.specs.Centre.{Centre, plan_of, view_of};
 ghost use Rattle.station_tables_statements.specs.Rows.{StandsFor};
-ghost use Rattle.station_tables.specs.Tables.{LeavesSets};
+ghost use Rattle.station_tables_writing.specs.Tables.{LeavesSets};
 ghost use Rattle.channel_view_model.specs.Need.{IsFetched};
 ghost use Rattle.channel_view_model.specs.Rules.{KeepsRules};
 ghost use Rattle.channel_view_rules.specs.ViewRules.{KeepsViewRules};
-ghost use Rattle.station_tables_reading.specs.DayLines.{counts_seen};
+ghost use Rattle.channel_view_model.specs.Counts.{counts_seen};
 ghost use Rattle.station_tables_reading.specs.Vaults.{AreVaultsRead, bytes_of};
 
+use crate::view_testing::read_tested_view;
 use channel_plan::PlanRow;
 use channel_view_model::{CentreRows, Need, Part, View};
 use reports::DayCounts;
 use sqlite::{Alter, Connection};
-use station_tables_reading::{read_day_counts, read_part, read_vaults, read_view};
+use station_tables_reading::{read_day_counts, read_part, read_vaults};
 use std::alloc::Global;
 use timecode::Unavailable;
 
@@ -42,7 +43,7 @@ pub(crate) fn load_view<S: Alter>(
     ensures sets { LeavesSets (state S.Store conn.old) → LeavesSets (state S.Store conn.new) }
 {
     let mut tx = conn.transaction();
-    read_view(alloc, &mut tx, channel, plan)
+    read_tested_view(alloc, &mut tx, channel, plan)
 }
 
 /// The part of what the channel sees that a command needs, or `None` where it has no row of the plan. Rows that don't

@@ -8,9 +8,9 @@ ghost use Rattle.station_tables_statements.specs.Rows.{channels_in};
 ghost use Rattle.station_tables.specs.Opens.{Opens, RefusesToOpen};
 
 use crate::finding::{Version, find_centre};
-use crate::migrating::migrate_centre;
 use channel_plan::{Code, PlanRow};
 use sqlite::{Alter, Connection};
+use station_tables_writing::migrate_centre;
 use std::alloc::Global;
 
 /// Tests the tables of a centre, and makes those of version 1 of version 2. Success answers its plan, by number.

@@ -5,7 +5,7 @@ ghost use Rattle.sqlite.specs.Held.{state};
 ghost use Rattle.channel_plan.specs.Refusal.{refused};
 ghost use Rattle.channel_view_model.specs.Centre.{Centre};
 ghost use Rattle.station_tables_statements.specs.Rows.{Stands, StandsFor};
-ghost use Rattle.station_tables.specs.Tables.{LeavesSets, MayLeave};
+ghost use Rattle.station_tables_writing.specs.Tables.{LeavesSets, MayLeave};
 ghost use Rattle.station_tables.specs.Store.{FindsLeft, HoldsAt, LeavesCentres, LeavesFound, store_plan, store_state};
 
 use crate::connected::SqlRows;

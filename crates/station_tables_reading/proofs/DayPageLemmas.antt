@@ -19,7 +19,8 @@ use Rattle.station_tables_records.proofs.AiredLemmas.{batches_rise}
 use Rattle.station_tables_statements.specs.Rows.{HoldsSet, rows_of_tables}
 use Rattle.station_tables_records.specs.Inside.{inside, Looks}
 use Rattle.station_tables_statements.specs.Calls.{WhileCleanCentre}
-use Rattle.station_tables_reading.specs.DayLines.{counts_in, counts_seen, days_below}
+use Rattle.channel_view_model.specs.Counts.{counts_seen}
+use Rattle.station_tables_reading.specs.DayLines.{counts_in, days_below}
 use Rattle.station_tables_reading.proofs.DayLineLemmas.{all_below, counts_told, next_days}
 use Rattle.station_tables_reading.proofs.ThenLemmas.{rows_then}
 

@@ -9,7 +9,7 @@ use Rattle.channel_plan.specs.declared.plan.PlanRow.{PlanRow}
 use Rattle.channel_plan.specs.Plan.{is_plan_in_order}
 use Rattle.channel_view_model.specs.Tables.{Table}
 use Rattle.channel_view_model.specs.Rules.{is_table_of, are_tables, KeepsRules}
-use Rattle.channel_view_rules.proofs.PlannedLemmas.{rows_planned, planned_all}
+use Rattle.channel_view_model.proofs.PlannedLemmas.{rows_planned, planned_all}
 use Rattle.vault_core.specs.declared.tape.Tape.{Tape}
 use Rattle.vault_core.specs.declared.clip.Clip.{Clip}
 use Rattle.station_tables_reading.specs.Vaults.{IsTableRead, bytes_of, tape_bytes, clip_bytes, offer_bytes}

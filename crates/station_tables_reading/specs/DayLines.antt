@@ -8,9 +8,7 @@ use Rattle.station_tables_records.specs.MadeDays.{DaySet, is_of_day, state_of}
 use Rattle.station_tables_records.specs.MadeAirings.{AiredSet, is_batch_of}
 use Rattle.station_tables_records.specs.TablePairs.{aired_rows_in, day_rows_in}
 use Rattle.reports.specs.declared.days.DayCounts.{DayCounts}
-use Rattle.reports.specs.Days.{batches_of, day_counts}
 use Rattle.reports.specs.Playlist.{frames_of}
-use Rattle.channel_view_model.specs.declared.view.View.{View}
 
 -- of the day of a row: the rows of its items and of its batches are counted
 abbrev pub counts_of_rows : DayRow → List (ℕ × ItemRow) → List (ℕ × BatchRow) → DayCounts
@@ -31,10 +29,6 @@ counts_at days aired r =
 -- by the rows that the tables hold
 abbrev pub counts_in : Trees → ℕ × DayRow → DayCounts
 counts_in trees r = counts_at (day_rows_in trees) (aired_rows_in trees) r
-
--- of each day that a channel sees
-abbrev pub counts_seen : View → List DayCounts
-counts_seen view = map (λ d. day_counts (batches_of view.aired d.number) d) view.days
 
 -- of this channel, with a number below this one
 abbrev pub is_day_below : ℕ → ℕ → ℕ × DayRow → Bool

@@ -10,7 +10,8 @@ ghost use Rattle.station_tables_records.specs.TablePairs.{day_rows_in};
 ghost use Rattle.station_tables_records.specs.Inside.{inside, Looks, Reads};
 ghost use Rattle.station_tables_statements.specs.Rows.{HoldsSet};
 ghost use Rattle.station_tables_statements.specs.Calls.{WhileCleanCentre, set_in};
-ghost use Rattle.station_tables_reading.specs.DayLines.{counts_in, counts_of_rows, counts_seen};
+ghost use Rattle.channel_view_model.specs.Counts.{counts_seen};
+ghost use Rattle.station_tables_reading.specs.DayLines.{counts_in, counts_of_rows};
 ghost use Rattle.station_tables_reading.specs.Lines.{WhileCleanSeen};
 
 use crate::open_testing::test_open;

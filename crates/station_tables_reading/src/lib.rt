@@ -11,11 +11,11 @@
 //! has to be open (`test_open`).
 //!
 //! What the database holds stands as a premise of the clauses ([`read_view`]: while the disk is clean, the tables are
-//! those of a centre), since no caller can know it before a call. None changes a row.
+//! those of a centre), since no caller can know it before a call. None changes a row, and none tests whether the rows
+//! keep the rules.
 //!
-//! Whatever the tables hold, what [`read_view`] gives keeps the rules (`shows`): rows that break one are
-//! answered `Unavailable`. A table is written from pages of 64 rows, the clips lent to a channel at once; of the days what is
-//! told of them, which is read by pages of a thousand numbers, of each day its items at once.
+//! A table is written from pages of 64 rows, the clips lent to a channel at once; of the days what is told of them,
+//! which is read by pages of a thousand numbers, of each day its items at once.
 #![tactic(auto)]
 
 mod airing_fetching;

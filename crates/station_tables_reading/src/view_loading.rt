@@ -1,6 +1,5 @@
 //! What one channel sees, from the tables.
-ghost use Rattle.std.specs.Prelude.{◌≡◌, Some, IfOk, IfSome};
-ghost use Rattle.channel_view_rules.specs.ViewRules.{KeepsViewRules};
+ghost use Rattle.std.specs.Prelude.{◌≡◌, Some, IfOk};
 ghost use Rattle.channel_view_model.specs.Tables.{rows_of};
 ghost use Rattle.channel_view_model.specs.Centre.{own_of, plan_of, view_of};
 ghost use Rattle.channel_view_model.specs.Seen.{grants_to};
@@ -13,7 +12,6 @@ use crate::day_loading::load_days;
 use crate::open_testing::test_open;
 use channel_plan::{LAST_DAY, PlanRow};
 use channel_view_model::{Airings, Days, View, airings_alone, days_alone};
-use channel_view_rules::keeps_view_rules;
 use grant_core::LentRows;
 use sqlite::{Alter, Transaction};
 use station_tables_statements::{load_lent, load_rows};
@@ -49,18 +47,6 @@ fn load_all_airings<S: Alter>(
 {
     let airings = load_airings(alloc, tx, plan)?;
     airings_alone(alloc, &airings)
-}
-
-// What a channel sees, where it keeps the rules.
-fn tested_view(view: View) -> Result<View, Unavailable>
-    ensures same { IfOk result (λ tested. tested ≡ view) }
-    ensures shows { IfOk result KeepsViewRules }
-{
-    if keeps_view_rules(&view) {
-        Ok(view)
-    } else {
-        Err(Unavailable)
-    }
 }
 
 // The own rows of a channel of the plan.
@@ -100,7 +86,7 @@ fn read_lent<S: Alter>(
 }
 
 /// What the channel sees, by its row of the plan, or `None` where it has none. It fails where memory or the store does,
-/// where a row doesn't read, and where the channel's rows break a rule.
+/// and where a row doesn't read. Whether the rows keep the rules is its caller's to test.
 pub fn read_view<S: Alter>(
     alloc: Global,
     tx: &mut Transaction<'_, S>,
@@ -111,7 +97,6 @@ pub fn read_view<S: Alter>(
     ensures view { WhileCleanCentre S.Store tx.old tx.new (KeepsRules (set_in (inside S.Store tx.old)) →
         plan_of channel (set_in (inside S.Store tx.old)) ≡ plan →
         IfOk result (λ view. view ≡ view_of channel (set_in (inside S.Store tx.old)))) }
-    ensures shows { IfOk result (λ view. IfSome view KeepsViewRules) }
 {
     test_open(tx)?;
     let Some(plan) = plan else {
@@ -121,11 +106,10 @@ pub fn read_view<S: Alter>(
     let lent = read_lent(alloc, tx, channel)?;
     let days = load_all_days(alloc, tx, &plan)?;
     let aired = load_all_airings(alloc, tx, &plan)?;
-    let view = tested_view(View {
+    Ok(Some(View {
         own,
         days,
         aired,
         lent,
-    })?;
-    Ok(Some(view))
+    }))
 }

@@ -11,7 +11,7 @@ use crate::script::{Exchange, exchanges_of, message};
 use channel_plan::PlanRow;
 use channel_view::MemRows;
 use channel_view_model::RowStore;
-use http_office::answers::Answer;
+use http_office::Answer;
 use http_office::messages::answer;
 use rows_at_hand::{CountedDays, MOST_DAYS, RecentDays, VaultsAtHand};
 use sqlite::MemStore;

@@ -2,7 +2,8 @@
 use crate::asserts::same;
 use crate::streams::{Full, MESSAGE, Steps, Taking};
 use channel_plan::{LineFault, ListFault};
-use playout_actions::{Fault, FaultLines, InputFault, StreamFault, answer_input};
+use playout_actions::answer_input;
+use playout_lists::{Fault, FaultLines, InputFault, StreamFault};
 use std::io::ErrorKind;
 use timecode::TcFault;
 

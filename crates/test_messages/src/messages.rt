@@ -1,6 +1,6 @@
 use crate::asserts::{same, same_in};
 use crate::streams::{ANSWER, BAD_MESSAGE, KNOWN, MESSAGE, store_of};
-use http_office::answers::Answer;
+use http_office::Answer;
 use http_office::messages::{answer, answer_all};
 use std::alloc::Global;
 use std::process::Abort;

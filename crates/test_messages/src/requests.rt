@@ -3,10 +3,10 @@ use crate::asserts::same;
 use channel_plan::PlanRow;
 use channel_view::laws::{questions_of_picked_rows_agree, stores_answer_alike};
 use channel_view::{MemRows, handle, prepare, run};
+use channel_view_decisions::decide;
 use channel_view_model::{
     Change, Command, Need, Outcome, Reply, RowStore, Table, TableText, VaultChange, VaultCommand,
 };
-use channel_view_rules::decide;
 use std::alloc::Global;
 use std::process::Abort;
 use timecode::Rate;

@@ -1,7 +1,8 @@
 //! The program by its words, without a database.
 use crate::asserts::same;
 use crate::streams::{ANSWER, MESSAGE};
-use playout_actions::{Fault, FaultLines, Lists, office};
+use playout_actions::office;
+use playout_lists::{Fault, FaultLines, Lists};
 use std::alloc::Global;
 use std::process::Abort;
 

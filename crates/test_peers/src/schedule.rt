@@ -5,7 +5,7 @@ use crate::door::{Chance, Wire};
 use channel_plan::PlanRow;
 use channel_view::MemRows;
 use channel_view_model::{RowStore, Table};
-use playout_actions::FaultLines;
+use playout_lists::FaultLines;
 use playout_peers::{Limits, serve_peers};
 use std::alloc::Global;
 use std::process::Abort;

@@ -1,7 +1,7 @@
 //! Connections that are served over a new store of one channel.
 use channel_plan::PlanRow;
 use channel_view::MemRows;
-use playout_actions::FaultLines;
+use playout_lists::FaultLines;
 use playout_peers::{Door, Limits, serve_peers, serve_turns};
 use std::alloc::Global;
 use std::net::TcpListener;

@@ -3,7 +3,7 @@ use crate::stops::{Reached, Stop, held};
 use channel_plan::PlanRow;
 use channel_view::MemRows;
 use channel_view_model::RowStore;
-use http_office::answers::Answer;
+use http_office::Answer;
 use http_office::messages::answer;
 use std::alloc::Global;
 use std::ops::Range;

@@ -3,7 +3,7 @@ use Rattle.std.proofs.Common.{sym, ◌∙◌, ap}
 use Rattle.channel_view_model.specs.Solo.{solo_reply, solo_after}
 use Rattle.channel_view_model.proofs.StepLemmas.{reply_is}
 use Rattle.channel_view_model.proofs.ViewLemmas.{view_of-after_own}
-use Rattle.channel_view.proofs.ServingLemmas.{answers_alike, views_alike}
+use Rattle.channel_view_laws.proofs.ServingLemmas.{answers_alike, views_alike}
 use Rattle.channel_view.proofs.laws.stores_answer_alike.Goals as goal
 
 pub returns-clause-answers : goal.returns-clause-answers

@@ -3,7 +3,7 @@ use Rattle.std.proofs.Common.{◌≡◌, ◌+◌, ◌-◌, ◌∙◌, ap, sym, r
 use Rattle.std.proofs.lemmas.Bool.Decides.{nat_tests}
 use Rattle.std.proofs.lemmas.Option.{slice_get_read, slice_get_within}
 use Rattle.channel_view_rules.proofs.BisectLemmas.{rises}
-use Rattle.channel_view_rules.proofs.NumberLemmas.{some_is, none_low, row_changed, row_lacking}
+use Rattle.channel_view.proofs.NumberLemmas.{some_is, none_low, row_changed, row_lacking}
 use Rattle.channel_view.proofs.mem.place_of.Goals.{else-place-table-via-then-place-table+else-table-place}
 use Rattle.channel_view.proofs.mem.place_of.Goals.{else-place-table-via-else-place-table}
 use Rattle.channel_view.proofs.mem.place_of.Goals as goal

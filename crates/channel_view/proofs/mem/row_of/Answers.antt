@@ -4,7 +4,8 @@ use Rattle.std.specs.Option.{option_map}
 use Rattle.std.proofs.lemmas.Bool.Decides.{nat_tests}
 use Rattle.std.proofs.lemmas.Option.{slice_get_past, slice_get_read}
 use Rattle.channel_view_model.specs.Tables.{rows_alone}
-use Rattle.channel_view_rules.proofs.NumberLemmas.{none_below, numbered_from_one}
+use Rattle.vault_core.proofs.NumberLemmas.{none_below}
+use Rattle.channel_view.proofs.NumberLemmas.{numbered_from_one}
 use Rattle.channel_view.proofs.mem.row_of.Goals as goal
 
 pub returns-then-number-eq0 : goal.returns-then-number-eq0

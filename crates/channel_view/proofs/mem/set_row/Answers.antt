@@ -3,7 +3,7 @@ use Rattle.std.proofs.Common.{◌≡◌, ◌<◌, true, length, subst, sym}
 use Rattle.std.specs.Prelude.{◌==◌, slice_index_or, slice_set}
 use Rattle.vault_core.specs.Rules.{is_numbered_from}
 use Rattle.channel_view_model.specs.Tables.{rows_of, alter_row}
-use Rattle.channel_view_rules.proofs.NumberLemmas.{order-set}
+use Rattle.channel_view.proofs.NumberLemmas.{order-set}
 use Rattle.channel_view.proofs.mem.set_row.Goals as goal
 
 pub returns-in-Some-clause-rows : goal.returns-in-Some-clause-rows

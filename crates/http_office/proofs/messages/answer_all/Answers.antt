@@ -1,6 +1,6 @@
 -- `answer_all`: answers messages in order.
 use Rattle.std.proofs.Common.{◌+◌, [], ap, ◌∙◌, subst, arith, rules}
-use Rattle.channel_view.proofs.AgainLemmas.{resumed}
+use Rattle.channel_view_laws.proofs.AgainLemmas.{resumed}
 use Rattle.http_office.specs.Alone.{kept_commands}
 use Rattle.http_office.proofs.RunLemmas.{all_step, did_nothing, left_is}
 use Rattle.http_office.proofs.AloneLemmas.{answered_all, rules_all, stands_so, given_alone, given_purged}

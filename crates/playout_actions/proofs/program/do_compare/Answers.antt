@@ -1,7 +1,7 @@
 -- `do_compare`: compares the lists in two files, and says what differs.
 use Rattle.std.specs.Prelude.{None}
-use Rattle.playout_actions.specs.Telling.{has_told}
-use Rattle.playout_actions.proofs.FileLemmas.{does_compare, quiet_status, small_status}
+use Rattle.playout_lists.specs.Telling.{has_told}
+use Rattle.playout_actions.proofs.OfficeLemmas.{does_compare, quiet_status, small_status}
 use Rattle.playout_actions.proofs.program.do_compare.Goals as goal
 
 pub returns-clause-status : goal.returns-clause-status

@@ -1,8 +1,8 @@
 -- `do_files`: does what is asked of lists in files.
 use Rattle.std.specs.Prelude.{None}
 use Rattle.edl.specs.Texts.{texts_of}
-use Rattle.playout_actions.specs.Telling.{has_told}
-use Rattle.playout_actions.proofs.FileLemmas.{does_files, quiet_files}
+use Rattle.playout_lists.specs.Telling.{has_told}
+use Rattle.playout_actions.proofs.OfficeLemmas.{does_files, quiet_files}
 use Rattle.playout_actions.proofs.program.do_files.Goals as goal
 
 pub returns-clause-quiet : goal.returns-clause-quiet

@@ -3,7 +3,7 @@ use Rattle.std.proofs.KnownBytes.{Keeps-refl}
 use Rattle.sqlite.specs.Held.{state}
 use Rattle.playout_actions.specs.Office.{office_of}
 use Rattle.playout_actions.specs.Tables.{table_of}
-use Rattle.playout_actions.specs.Telling.{has_told}
+use Rattle.playout_lists.specs.Telling.{has_told}
 use Rattle.playout_cli.specs.Acting.{known_of}
 use Rattle.playout_cli.proofs.ActingLemmas.{concludes, both, where_refused, acts_on_port, prints_table, stays}
 use Rattle.playout_cli.proofs.acting.act_on_tables.Goals as goal

@@ -3,7 +3,7 @@ use Rattle.std.proofs.Common.{inl, inr, refl, sym, ap, ◌∙◌, subst, subst�
 use Rattle.std.proofs.KnownBytes.{Keeps-refl}
 use Rattle.channel_plan.specs.Plan.{is_plan}
 use Rattle.playout_actions.specs.Answering.{ArePlanTexts, RefusesPlan}
-use Rattle.playout_actions.specs.declared.fault.Fault.TheVariants.{Refused}
+use Rattle.playout_lists.specs.declared.fault.Fault.TheVariants.{Refused}
 use Rattle.playout_cli.proofs.acting.act_over.Goals as goal
 
 pub returns-in-Ok-clause-does : goal.returns-in-Ok-clause-does

@@ -6,7 +6,7 @@ use Rattle.sqlite.specs.Held.{state}
 use Rattle.station_tables_statements.specs.Rows.{StandsFor}
 use Rattle.station_tables.proofs.FindLemmas.{known_of}
 use Rattle.station_tables.specs.Store.{StandsWithPlan}
-use Rattle.station_tables.specs.Tables.{MayLeave}
+use Rattle.station_tables_writing.specs.Tables.{MayLeave}
 use Rattle.rows_at_hand.specs.AtHand.{AreVaultsOf}
 use Rattle.rows_at_hand.specs.Counted.{AreCounted}
 use Rattle.rows_at_hand.proofs.KnownLemmas.{nothing_known}

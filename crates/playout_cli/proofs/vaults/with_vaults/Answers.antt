@@ -11,7 +11,7 @@ use Rattle.rows_at_hand.specs.Counted.{AreCounted, IsCounted}
 use Rattle.rows_at_hand.specs.Vaults.{vaults_in}
 use Rattle.station_tables_reading.specs.Vaults.{AreVaultsRead, bytes_of}
 use Rattle.station_tables.specs.Store.{StandsWithPlan}
-use Rattle.station_tables.specs.Tables.{MayLeave}
+use Rattle.station_tables_writing.specs.Tables.{MayLeave}
 use Rattle.playout_cli.specs.Vaults.{most_vault_bytes}
 use Rattle.playout_cli.proofs.vaults.with_vaults.Goals as goal
 

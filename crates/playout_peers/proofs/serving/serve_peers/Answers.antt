@@ -1,5 +1,5 @@
 -- `serve_peers`: serves connections, so many of which are open at once at most, until so many have ended.
-use Rattle.playout_actions.specs.declared.streams.InputFault.TheVariants as input
+use Rattle.playout_lists.specs.declared.streams.InputFault.TheVariants as input
 use Rattle.playout_peers.proofs.ServingLemmas.{unserved}
 use Rattle.playout_peers.proofs.serving.serve_peers.Goals as goal
 

@@ -1,6 +1,6 @@
 -- `serve_rounds`: serves the connections that are let in, until so many have ended.
 use Rattle.std.proofs.Common.{refl, arith}
-use Rattle.playout_actions.specs.declared.streams.InputFault.TheVariants as input
+use Rattle.playout_lists.specs.declared.streams.InputFault.TheVariants as input
 use Rattle.playout_peers.proofs.ServingLemmas.{serves_none, served, broken}
 use Rattle.playout_peers.proofs.serving.serve_rounds.Goals as goal
 

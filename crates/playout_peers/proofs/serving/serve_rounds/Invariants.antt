@@ -1,6 +1,6 @@
 -- The loops of `serve_rounds` (serves the connections that are let in, until so many have ended).
 use Rattle.std.proofs.Common.{◌≤◌, ◌<◌, length}
-use Rattle.playout_actions.specs.Telling.{has_told}
+use Rattle.playout_lists.specs.Telling.{has_told}
 use Rattle.playout_peers.specs.Serving.{Serving}
 use Rattle.playout_peers.proofs.serving.serve_rounds.Given as goal
 

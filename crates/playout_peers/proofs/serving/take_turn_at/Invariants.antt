@@ -1,6 +1,6 @@
 -- The loops of `take_turn_at` (gives the connection at a place its turn: it is read, one message is answered).
 use Rattle.std.proofs.Common.{◌≡◌, length}
-use Rattle.playout_actions.specs.Telling.{has_told}
+use Rattle.playout_lists.specs.Telling.{has_told}
 use Rattle.playout_peers.specs.Serving.{GoesOn}
 use Rattle.playout_peers.proofs.serving.take_turn_at.Given as goal
 

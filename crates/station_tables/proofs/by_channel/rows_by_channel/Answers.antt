@@ -6,14 +6,24 @@ use Rattle.channel_plan.specs.declared.plan.PlanRow.{PlanRow}
 use Rattle.station_tables_records.specs.MadeDays.{Rise, plan_cmp}
 use Rattle.station_tables_records.specs.Inside.{inside}
 use Rattle.station_tables_records.specs.Table.{HoldsFitting}
-use Rattle.station_tables_records.proofs.InsideLemmas.{reads_on}
+use Rattle.station_tables_records.proofs.InsideLemmas.{reads_on, reads_failed}
 use Rattle.station_tables_statements.proofs.LookLemmas.{reads_then}
 use Rattle.station_tables.specs.Parts.{HoldsPart}
 use Rattle.station_tables.specs.declared.finding.Version.TheVariants.{First}
-use Rattle.station_tables.proofs.FindLemmas.{back, handed_on}
+use Rattle.station_tables_records.proofs.MadeLemmas.{handed_on}
+use Rattle.station_tables.proofs.FindLemmas.{back}
 use Rattle.station_tables.proofs.PartLemmas.{part_begun, part_grown, part_whole, none_left, ids_differ}
 use Rattle.station_tables.proofs.PartLemmas.{reads_ok, rise_from, adds_then}
 use Rattle.station_tables.proofs.by_channel.rows_by_channel.Goals as goal
+
+pub returns-in_err-count-clause-reads : goal.returns-in_err-count-clause-reads
+returns-in_err-count-clause-reads g c =
+    reads_failed g.S.Store _ _ _ _ c.from_residual.ensures.0 c.query_count.ensures.reads
+
+pub returns-in_err-count-clause-ours : goal.returns-in_err-count-clause-ours
+returns-in_err-count-clause-ours g c known clean =
+    handed_on _ c.in_err-count.field-0.0 c.from_residual.result c.from_residual.ensures.1
+    (λ is holds planned. c.in_err-count.ensures.ours is (c.query_count.ensures.short known clean))
 
 pub loop-plan-init : goal.loop-plan-init
 loop-plan-init g c =
@@ -29,6 +39,11 @@ loop-plan-init g c =
           λ known clean. subst₂ (HoldsPart t every c.args.channels.now c.args.channels.now)
           (sym c.new-rows.ensures.items) (sym c.new-ids.ensures.items) none;
     }
+
+pub returns-in_err-add_channel-clause-reads : goal.returns-in_err-add_channel-clause-reads
+returns-in_err-add_channel-clause-reads g c =
+    reads_failed g.S.Store _ _ _ _ c.from_residual-in_err-add_channel.ensures.0
+    (reads_then g.S.Store _ _ _ _ _ c.loop-plan.invariant.reads c.add_channel.ensures.reads)
 
 pub returns-in_err-add_channel-clause-ours : goal.returns-in_err-add_channel-clause-ours
 returns-in_err-add_channel-clause-ours g c known clean =
@@ -64,6 +79,13 @@ loop-plan-preserved g c =
           (c.loop-plan.invariant.part known early))
           (adds_then t b.trees adds);
     }
+
+pub returns-in_err-test_whole-clause-reads : goal.returns-in_err-test_whole-clause-reads
+returns-in_err-test_whole-clause-reads g c =
+    reads_failed g.S.Store _ _ _ _ c.from_residual-in_err-test_whole.ensures.0 c.loop-plan.invariant.reads
+
+pub returns-clause-reads : goal.returns-clause-reads
+returns-clause-reads g c = reads_on g.S.Store _ _ tt _ c.loop-plan.invariant.reads
 
 pub returns-in_err-test_whole-clause-ours : goal.returns-in_err-test_whole-clause-ours
 returns-in_err-test_whole-clause-ours g c known clean =

@@ -7,7 +7,8 @@ use Rattle.station_tables_records.specs.Table.{HoldsRows}
 use Rattle.station_tables_records.specs.MadeAirings.{MakeAirings}
 use Rattle.station_tables_records.specs.BatchRows.{batch_table}
 use Rattle.station_tables_records.specs.LineRows.{line_table}
-use Rattle.station_tables.proofs.FindLemmas.{handed_on, refused_only, same_aired, known_after}
+use Rattle.station_tables_records.proofs.MadeLemmas.{handed_on}
+use Rattle.station_tables.proofs.FindLemmas.{refused_only, same_aired, known_after}
 use Rattle.station_tables_records.specs.Table.{HoldsFitting, rows_in}
 use Rattle.station_tables_records.specs.LineRows.{line_fits}
 use Rattle.station_tables_records.specs.TablePairs.{aired_rows_in}

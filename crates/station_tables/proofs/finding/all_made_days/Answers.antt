@@ -7,7 +7,8 @@ use Rattle.station_tables_records.specs.Table.{HoldsRows}
 use Rattle.station_tables_records.specs.MadeDays.{MakeDays}
 use Rattle.station_tables_records.specs.DayRows.{day_table}
 use Rattle.station_tables_records.specs.ItemRows.{item_table}
-use Rattle.station_tables.proofs.FindLemmas.{handed_on, refused_only, same_days, known_after}
+use Rattle.station_tables_records.proofs.MadeLemmas.{handed_on}
+use Rattle.station_tables.proofs.FindLemmas.{refused_only, same_days, known_after}
 use Rattle.station_tables_records.specs.Table.{HoldsFitting, rows_in}
 use Rattle.station_tables_records.specs.ItemRows.{item_fits}
 use Rattle.station_tables_records.specs.TablePairs.{day_rows_in}

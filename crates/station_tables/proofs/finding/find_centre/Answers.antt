@@ -5,7 +5,7 @@ use Rattle.sqlite.specs.State.{HasCleanDisk}
 use Rattle.sqlite.specs.Held.{state}
 use Rattle.station_tables_records.specs.Inside.{inside}
 use Rattle.station_tables.specs.Opening.{IsCentreOf, CommitsShown}
-use Rattle.station_tables.proofs.FindLemmas.{handed_on}
+use Rattle.station_tables_records.proofs.MadeLemmas.{handed_on}
 use Rattle.station_tables.proofs.finding.find_centre.Goals as goal
 
 pub returns-in_err-found-clause-refused : goal.returns-in_err-found-clause-refused

@@ -13,7 +13,8 @@ use Rattle.station_tables_records.specs.TablePairs.{aired_rows_in, day_rows_in}
 use Rattle.station_tables_records.specs.MadeAirings.{MakeAirings}
 use Rattle.station_tables_statements.specs.Rows.{channels_in}
 use Rattle.station_tables.specs.Opening.{HoldsRules, rows_at}
-use Rattle.station_tables.proofs.FindLemmas.{handed_on, MadeOffers, MadeDays, MadeAirings, read_whole, known_of}
+use Rattle.station_tables_records.proofs.MadeLemmas.{handed_on}
+use Rattle.station_tables.proofs.FindLemmas.{MadeOffers, MadeDays, MadeAirings, read_whole, known_of}
 use Rattle.station_tables.proofs.FindLemmas.{back, back_then, offer_rows_fit, windows_fit, days_fit, items_fit}
 use Rattle.station_tables.proofs.FindLemmas.{makes_days, batches_fitting, lines_fitting, airings_kept}
 use Rattle.station_tables.proofs.finding.set_of_tables.Goals as goal

@@ -5,7 +5,8 @@ use Rattle.sqlite.specs.Effect.{Database}
 use Rattle.station_tables_records.specs.Inside.{inside}
 use Rattle.station_tables_statements.specs.Rows.{channels_in}
 use Rattle.station_tables.specs.Opening.{HoldsRules, HasTablesOf, IsCentreIn, database_in, number_of}
-use Rattle.station_tables.proofs.FindLemmas.{first_after, handed_on, known_of, of_after, is_centre, rules_of}
+use Rattle.station_tables_records.proofs.MadeLemmas.{handed_on}
+use Rattle.station_tables.proofs.FindLemmas.{first_after, known_of, of_after, is_centre, rules_of}
 use Rattle.station_tables.proofs.FindLemmas.{version_in, one_version, known_after, known_version}
 use Rattle.station_tables.proofs.finding.test_tables.Goals as goal
 

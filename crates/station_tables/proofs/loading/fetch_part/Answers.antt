@@ -8,8 +8,8 @@ use Rattle.channel_view_model.specs.Need.{IsFetched}
 use Rattle.channel_view_model.specs.Rules.{KeepsRules}
 use Rattle.station_tables_records.specs.Inside.{inside}
 use Rattle.station_tables_statements.proofs.StandLemmas.{keeps_centre, where_ok}
-use Rattle.station_tables.specs.Tables.{LeavesSets}
-use Rattle.station_tables.proofs.StandLemmas.{leaves_kept}
+use Rattle.station_tables_writing.specs.Tables.{LeavesSets}
+use Rattle.station_tables_writing.proofs.StandLemmas.{leaves_kept}
 use Rattle.station_tables_reading.proofs.SeenLemmas.{rules_kept}
 use Rattle.station_tables.proofs.loading.fetch_part.Goals as goal
 

@@ -7,9 +7,9 @@ use Rattle.sqlite.specs.Held.{state}
 use Rattle.channel_view_model.specs.Centre.{Centre, plan_of, view_of}
 use Rattle.station_tables_records.specs.Inside.{inside}
 use Rattle.station_tables_statements.proofs.StandLemmas.{keeps_centre, where_ok}
-use Rattle.station_tables.specs.Tables.{LeavesSets}
-use Rattle.station_tables.proofs.StandLemmas.{leaves_kept}
-use Rattle.station_tables_reading.specs.DayLines.{counts_seen}
+use Rattle.station_tables_writing.specs.Tables.{LeavesSets}
+use Rattle.station_tables_writing.proofs.StandLemmas.{leaves_kept}
+use Rattle.channel_view_model.specs.Counts.{counts_seen}
 use Rattle.station_tables_reading.proofs.SeenLemmas.{own_set, rules_kept}
 use Rattle.station_tables.proofs.loading.load_day_counts.Goals as goal
 
@@ -39,7 +39,8 @@ returns-clause-rules g c clean set stands =
     let dropped : HasCleanDisk (state g.S.Store c.drop-tx.new.self.0) = search (rules, clean) in
     let before : HasCleanDisk (inside g.S.Store c.read_day_counts.new.tx) =
     omega (arith, dropped, c.drop-tx.ensures.survives.clean) in
-    rules_kept g.S.Store _ _ _ c.read_day_counts.result set c.transaction-tx.ensures.begun c.read_day_counts.ensures.reads
+    rules_kept g.S.Store _ _ _ c.read_day_counts.result set c.transaction-tx.ensures.begun
+    c.read_day_counts.ensures.reads
     before stands
 
 -- what a stop leaves is what it left before

@@ -7,8 +7,8 @@ use Rattle.channel_view_model.specs.Centre.{Centre}
 use Rattle.channel_view_model.specs.Rules.{KeepsRules}
 use Rattle.station_tables_records.specs.Inside.{inside}
 use Rattle.station_tables_statements.proofs.StandLemmas.{keeps_centre, where_ok}
-use Rattle.station_tables.specs.Tables.{LeavesSets}
-use Rattle.station_tables.proofs.StandLemmas.{leaves_kept}
+use Rattle.station_tables_writing.specs.Tables.{LeavesSets}
+use Rattle.station_tables_writing.proofs.StandLemmas.{leaves_kept}
 use Rattle.station_tables_reading.specs.Vaults.{AreVaultsRead}
 use Rattle.station_tables_reading.proofs.SeenLemmas.{rules_kept}
 use Rattle.station_tables.proofs.loading.load_vaults.Goals as goal
@@ -36,7 +36,8 @@ returns-clause-rules g c clean set stands =
     let dropped : HasCleanDisk (state g.S.Store c.drop-tx.new.self.0) = search (rules, clean) in
     let before : HasCleanDisk (inside g.S.Store c.read_vaults.new.tx) =
     omega (arith, dropped, c.drop-tx.ensures.survives.clean) in
-    rules_kept g.S.Store _ _ _ c.read_vaults.result set c.transaction-tx.ensures.begun c.read_vaults.ensures.reads before
+    rules_kept g.S.Store _ _ _ c.read_vaults.result set c.transaction-tx.ensures.begun c.read_vaults.ensures.reads
+    before
     stands
 
 -- what a stop leaves is what it left before

@@ -11,8 +11,9 @@ use Rattle.station_tables_statements.specs.Rows.{Holds, Stands}
 use Rattle.station_tables.specs.declared.finding.Version.{Version}
 use Rattle.station_tables.specs.declared.finding.Version.TheVariants.{First, Second}
 use Rattle.station_tables.specs.Opening.{HasTablesOf, IsCentreIn, IsCentreOf, database_in, number_of, rows_at}
-use Rattle.station_tables.proofs.FindLemmas.{handed_on, known_of, known_version, one_version, version_in}
-use Rattle.station_tables.specs.Found.{Migrates, RefusesToMigrate}
+use Rattle.station_tables_records.proofs.MadeLemmas.{handed_on}
+use Rattle.station_tables.proofs.FindLemmas.{known_of, known_version, one_version, version_in}
+use Rattle.station_tables_writing.specs.Migrating.{Migrates, RefusesToMigrate}
 use Rattle.station_tables.specs.Opens.{RefusesToOpen}
 use Rattle.station_tables.proofs.OpenLemmas.{second_stands, first_set, centre_then, first_then, left_found, may_be}
 use Rattle.station_tables.proofs.OpenLemmas.{no_more, may_be_so, for_code, no_version, opens_of, refuses_of}

@@ -4,7 +4,7 @@ use Rattle.std.specs.Option.{option_map}
 use Rattle.station_tables_records.specs.Inside.{inside}
 use Rattle.station_tables_statements.specs.Calls.{set_in}
 use Rattle.station_tables_statements.proofs.LookLemmas.{read_is_look}
-use Rattle.station_tables_reading.specs.DayLines.{counts_seen}
+use Rattle.channel_view_model.specs.Counts.{counts_seen}
 use Rattle.station_tables_reading.proofs.PageTextLemmas.{seen_then}
 use Rattle.station_tables_reading.proofs.SeenLemmas.{seen_of, seen_of_none}
 use Rattle.station_tables_reading.proofs.day_counting.read_day_counts.Goals as goal

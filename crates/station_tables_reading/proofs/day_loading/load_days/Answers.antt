@@ -9,7 +9,28 @@ use Rattle.station_tables_records.proofs.DayMadeLemmas.{days_within, of_one_row}
 use Rattle.station_tables_records.specs.TwoTables.{HasBoth, HasBothNow}
 use Rattle.station_tables_records.specs.TablePairs.{day_rows_in, day_tables}
 use Rattle.station_tables_statements.specs.DayCalls.{days_in}
+use Rattle.station_tables_records.proofs.InsideLemmas.{reads_failed, reads_on}
+use Rattle.station_tables_statements.proofs.LookLemmas.{reads_err, reads_then}
 use Rattle.station_tables_reading.proofs.day_loading.load_days.Goals as goal
+
+pub returns-in_err-days-clause-reads : goal.returns-in_err-days-clause-reads
+returns-in_err-days-clause-reads g c =
+    reads_failed g.S.Store _ _ _ _ c.from_residual.ensures.0 c.load_day_rows.ensures.reads
+
+pub returns-in_err-items-clause-reads : goal.returns-in_err-items-clause-reads
+returns-in_err-items-clause-reads g c =
+    reads_failed g.S.Store _ _ _ _ c.from_residual-in_err-items.ensures.0
+    (reads_then g.S.Store _ _ _ _ _ c.in_ok-days.ensures.reads c.load_item_rows.ensures.reads)
+
+pub returns-in-Ok-clause-reads : goal.returns-in-Ok-clause-reads
+returns-in-Ok-clause-reads g c =
+    reads_on g.S.Store _ _ _ _
+    (reads_then g.S.Store _ _ _ _ _ c.in_ok-days.ensures.reads c.in_ok-items.ensures.reads)
+
+pub returns-clause-reads : goal.returns-clause-reads
+returns-clause-reads g c =
+    reads_err g.S.Store _ _ _ _
+    (reads_then g.S.Store _ _ _ _ _ c.in_ok-days.ensures.reads c.in_ok-items.ensures.reads)
 
 pub returns-in-Ok-clause-days : goal.returns-in-Ok-clause-days
 returns-in-Ok-clause-days g c held clean channels found =

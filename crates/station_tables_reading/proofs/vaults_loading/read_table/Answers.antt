@@ -5,7 +5,7 @@ use Rattle.station_tables_records.specs.Inside.{inside}
 use Rattle.station_tables_statements.specs.Calls.{set_in}
 use Rattle.station_tables_statements.proofs.LookLemmas.{looks_on, looks_err, looks_then, read_is_look}
 use Rattle.station_tables_statements.proofs.LookLemmas.{was_clean}
-use Rattle.channel_view_rules.proofs.PlannedLemmas.{rows_planned, planned_more, planned_all}
+use Rattle.channel_view_model.proofs.PlannedLemmas.{rows_planned, planned_more, planned_all}
 use Rattle.station_tables_reading.proofs.VaultLemmas.{planned_fewer}
 use Rattle.station_tables_reading.proofs.VaultLemmas.{bytes_more, bytes_past, read_before}
 use Rattle.station_tables_reading.proofs.vaults_loading.read_table.Goals as goal

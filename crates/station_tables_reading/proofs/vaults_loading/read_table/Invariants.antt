@@ -3,7 +3,7 @@ use Rattle.std.proofs.Common.{◌≡◌, ◌+◌, ◌*◌, ℕ, length, take, Ok
 use Rattle.timecode.specs.declared.faults.Unavailable.{Unavailable}
 use Rattle.station_tables_records.specs.Inside.{inside, Looks}
 use Rattle.station_tables_statements.specs.Calls.{WhileCleanCentre, set_in}
-use Rattle.channel_view_rules.proofs.PlannedLemmas.{rows_planned}
+use Rattle.channel_view_model.proofs.PlannedLemmas.{rows_planned}
 use Rattle.station_tables_reading.proofs.vaults_loading.read_table.Given as goal
 
 -- the rows of the channels in front were read, and what is left is what they leave

@@ -61,8 +61,7 @@ returns-clause-view g c centre clean rules known =
     set_before s _ _ _ _ _ days_read aired_look
     (λ set. plan_of plan.ch set ≡ Some plan → c.in_ok-aired.aired ≡ rows_of plan.ch set.aired)
     c.in_ok-aired.ensures.airings centre clean there ∙ ap (λ k. rows_of k rows.aired) mine in
-    ap (λ v. Some v)
-    (c.in_ok-view.ensures.same ∙ (λ i. record { own = own i; days = days i; aired = aired i; lent = lent i }))
+    ap (λ v. Some v) (λ i. record { own = own i; days = days i; aired = aired i; lent = lent i })
     ∙ ap (option_map (view_at ch rows)) (sym planned_is)
 
 pub returns-in_err-days-clause-reads : goal.returns-in_err-days-clause-reads
@@ -79,11 +78,3 @@ returns-in_err-aired-clause-reads g c =
     (reads_then g.S.Store _ _ _ _ _ c.in_ok-own.ensures.reads
     (reads_then g.S.Store _ _ _ _ _ c.in_ok-lent.ensures.reads
     (reads_then g.S.Store _ _ _ _ _ c.in_ok-days.ensures.reads c.load_all_airings.ensures.reads))))
-
-pub returns-in_err-view-clause-reads : goal.returns-in_err-view-clause-reads
-returns-in_err-view-clause-reads g c =
-    reads_failed g.S.Store _ _ _ _ c.from_residual-in_err-view.ensures.0
-    (reads_then g.S.Store _ _ _ _ _ c.in_ok-test_open.ensures.reads
-    (reads_then g.S.Store _ _ _ _ _ c.in_ok-own.ensures.reads
-    (reads_then g.S.Store _ _ _ _ _ c.in_ok-lent.ensures.reads
-    (reads_then g.S.Store _ _ _ _ _ c.in_ok-days.ensures.reads c.in_ok-aired.ensures.reads))))

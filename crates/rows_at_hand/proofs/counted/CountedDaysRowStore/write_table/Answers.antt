@@ -9,7 +9,8 @@ use Rattle.channel_view_model.specs.declared.table.Table.TheVariants.{Days}
 use Rattle.channel_view_model.specs.Centre.{view_of}
 use Rattle.channel_view_model.specs.TableText.{text_at}
 use Rattle.rows_at_hand.specs.declared.counts.ChannelCounts.{ChannelCounts}
-use Rattle.rows_at_hand.specs.Counted.{IsCounted, counts_seen, counts_text, is_channel}
+use Rattle.channel_view_model.specs.Counts.{counts_seen}
+use Rattle.rows_at_hand.specs.Counted.{IsCounted, counts_text, is_channel}
 use Rattle.rows_at_hand.proofs.CountedLemmas.{is_there, known_here, table_told, told_below}
 use Rattle.rows_at_hand.proofs.counted.CountedDaysRowStore.write_table.Goals as goal
 

@@ -1,6 +1,6 @@
 -- `SqlRows::create`: makes the ten tables, the version and the channels of the plan, in one transaction.
 use Rattle.std.proofs.Common.{rules}
-use Rattle.station_tables.proofs.StandLemmas.{leaves_alone}
+use Rattle.station_tables_writing.proofs.StandLemmas.{leaves_alone}
 use Rattle.station_tables.proofs.OpenLemmas.{stands_alone}
 use Rattle.station_tables.proofs.connected.SqlRows.create.Goals as goal
 

@@ -1,6 +1,6 @@
 -- `SqlRows::write_table`: a table of the channel, by the plan that is kept.
 use Rattle.station_tables.proofs.KeptLemmas.{kept_row}
-use Rattle.station_tables.proofs.StandLemmas.{leaves_kept}
+use Rattle.station_tables_writing.proofs.StandLemmas.{leaves_kept}
 use Rattle.station_tables.proofs.store.SqlRowsRowStore.write_table.Goals as goal
 
 pub returns-clause-there : goal.returns-clause-there

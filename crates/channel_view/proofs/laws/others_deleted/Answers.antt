@@ -1,6 +1,0 @@
--- `others_deleted`: the requests of channels that lend it nothing may be deleted from a run.
-use Rattle.channel_view_rules.proofs.RunLemmas.{purge_law}
-use Rattle.channel_view.proofs.laws.others_deleted.Goals as goal
-
-pub returns : goal.returns
-returns c = purge_law

@@ -1,0 +1,4 @@
+pub mod NameLemmas
+mod CountLemmas
+pub mod TellingLemmas
+mod FileLemmas

@@ -1,0 +1,11 @@
+pub mod Streams
+pub mod Limits
+pub mod Fault
+pub mod Telling
+pub mod Counts
+pub mod Checking
+pub mod Printing
+pub mod Counting
+pub mod Listing
+pub mod Named
+pub mod Comparing
