@@ -129,10 +129,11 @@ class Halted(Folder):
             self.office = subprocess.Popen(["sleep", "60"], stdin=held)
         self.addCleanup(self.office.wait)
         self.addCleanup(self.office.kill)
-        # A disk that is slow.
-        with open(f"{self.folder}/cp", "w", encoding="ascii") as out:
-            out.write("#!/bin/sh\nsleep 30\n")
-        os.chmod(f"{self.folder}/cp", 0o755)
+        # A disk that is slow, and a machine that is.
+        for name, what in (("cp", "sleep 30"), ("setsid", f"sleep 1\nexec {shutil.which('setsid')} \"$@\"")):
+            with open(f"{self.folder}/{name}", "w", encoding="ascii") as out:
+                out.write(f"#!/bin/sh\n{what}\n")
+            os.chmod(f"{self.folder}/{name}", 0o755)
 
     def state(self):
         with open(f"/proc/{self.office.pid}/stat", encoding="ascii") as it:
