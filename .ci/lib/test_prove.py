@@ -65,6 +65,10 @@ def check_shares():
     check('one alone', prove.processes_of([runs], [runs], [runs], 4) == {runs: 4})
     check('two that begin', prove.processes_of([runs, begins], [runs, begins], [runs, begins], 4) == {runs: 2, begins: 2})
     check('none that is not urgent', prove.processes_of([near], [runs, near], [runs, near], 4) == {})
+    programs = ('playout_memory', 'playout_cli')
+    check('each crate of the programs was measured', {*programs}.union(*map(prove.below, programs)) == set(prove.SECONDS))
+    prove.SECONDS = {}
+    check('one that was not counts by its lines', prove.Crate('timecode', {}).work == prove.seconds_by_lines('timecode') > 10)
 
 
 def main():

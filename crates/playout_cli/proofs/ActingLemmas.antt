@@ -9,7 +9,7 @@ use Rattle.channel_plan.specs.Refusal.{refused}
 use Rattle.channel_view_model.specs.Centre.{Centre}
 use Rattle.channel_view_model.specs.declared.table.Table.{Table}
 use Rattle.station_tables_statements.specs.Rows.{StandsFor}
-use Rattle.station_tables.specs.Store.{LeavesFound}
+use Rattle.station_tables_opening.specs.Left.{LeavesFound}
 use Rattle.playout_args.specs.declared.words.Action.{Action}
 use Rattle.playout_args.specs.declared.words.Action.TheVariants as asks
 use Rattle.playout_args.specs.declared.words.NoAction.{NoAction}
@@ -23,7 +23,7 @@ use Rattle.playout_lists.specs.declared.fault.Fault.TheVariants.{Label, List as 
 use Rattle.playout_lists.specs.declared.fault.Fault.TheVariants.{Listen, Stream}
 use Rattle.playout_cli.specs.Acting.{Known, known_of, ActsOnPort, ActsOver, DoesAll, file_of}
 use Rattle.playout_cli.specs.Kept.{BeginsWith}
-use Rattle.station_tables.specs.Opens.{RefusesToOpen}
+use Rattle.station_tables_opening.specs.Opens.{RefusesToOpen}
 use Rattle.playout_cli.specs.Serving.{ServesOver, PortOverHas, PrintHas, most_of}
 
 -- it was done, or a fault was told

@@ -9,9 +9,10 @@ use Rattle.channel_view_model.specs.Centre.{Centre}
 use Rattle.station_tables_records.specs.Schema.{no_schema}
 use Rattle.station_tables_statements.specs.Rows.{BeginsBare, Stands, StandsFor, plan_in_order}
 use Rattle.station_tables.specs.declared.connected.SqlRows.{SqlRows}
-use Rattle.station_tables.specs.declared.finding.Version.{Version}
-use Rattle.station_tables.specs.Opening.{HasTablesOf, rows_at}
-use Rattle.station_tables.specs.Store.{LeavesFound, StandsWithPlan, store_plan, store_state}
+use Rattle.station_tables_opening.specs.declared.finding.Version.{Version}
+use Rattle.station_tables_opening.specs.Opening.{HasTablesOf, rows_at}
+use Rattle.station_tables_opening.specs.Left.{LeavesFound}
+use Rattle.station_tables.specs.Store.{StandsWithPlan, store_plan, store_state}
 use Rattle.station_tables_writing.specs.Tables.{LeavesDatabase}
 use Rattle.playout_cli.specs.Kept.{BeginsWith}
 

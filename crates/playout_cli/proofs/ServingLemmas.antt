@@ -26,7 +26,7 @@ use Rattle.playout_lists.specs.declared.fault.Fault.{Fault}
 use Rattle.playout_lists.specs.declared.fault.Fault.TheVariants.{Label, List as OfList, Refused, NoChannel, Open}
 use Rattle.playout_lists.specs.declared.fault.Fault.TheVariants.{Listen, Stream}
 use Rattle.playout_lists.specs.declared.streams.StreamFault.TheVariants.{Write}
-use Rattle.station_tables.specs.Opens.{RefusesToOpen, RefusesToCreate}
+use Rattle.station_tables_opening.specs.Opens.{RefusesToOpen, RefusesToCreate}
 use Rattle.playout_cli.specs.Refusing.{RefusesTables}
 use Rattle.playout_cli.specs.Serving.{AreKept, PortHas, PortOverHas, ServesOver, PrintHas, IsPort, SaysPort}
 use Rattle.playout_cli.specs.Serving.{line_of_serving}

@@ -12,7 +12,7 @@ use Rattle.channel_plan.specs.Plan.{is_plan}
 use Rattle.channel_view_model.specs.Centre.{Centre}
 use Rattle.http_office.specs.declared.serving.End.{End}
 use Rattle.station_tables_statements.specs.Rows.{StandsFor}
-use Rattle.station_tables.specs.Store.{LeavesFound}
+use Rattle.station_tables_opening.specs.Left.{LeavesFound}
 use Rattle.station_tables_writing.specs.Tables.{MayLeave}
 use Rattle.playout_args.specs.Words.{AreRead}
 use Rattle.playout_args.specs.declared.words.Action.{Action}

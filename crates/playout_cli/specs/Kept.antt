@@ -5,8 +5,8 @@ use Rattle.channel_plan.specs.declared.plan.PlanRow.{PlanRow}
 use Rattle.channel_view_model.specs.Centre.{Centre}
 use Rattle.station_tables_records.specs.Schema.{no_schema}
 use Rattle.station_tables_statements.specs.Rows.{BeginsBare, plan_in_order}
-use Rattle.station_tables.specs.declared.finding.Version.{Version}
-use Rattle.station_tables.specs.Opening.{HasTablesOf, rows_at}
+use Rattle.station_tables_opening.specs.declared.finding.Version.{Version}
+use Rattle.station_tables_opening.specs.Opening.{HasTablesOf, rows_at}
 
 -- With plan rows it has no table, and the rows will be the plan alone. With none it has the tables of a centre, of
 -- either version, and the rows are those that they hold.

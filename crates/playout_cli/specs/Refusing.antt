@@ -5,7 +5,7 @@ use Rattle.channel_plan.specs.declared.plan.PlanRow.{PlanRow}
 use Rattle.channel_plan.specs.declared.refusal.Code.TheVariants as code
 use Rattle.channel_plan.specs.declared.refusal.Refusal.{Refusal}
 use Rattle.channel_plan.specs.Refusal.{refused}
-use Rattle.station_tables.specs.Opens.{RefusesToOpen, RefusesToCreate}
+use Rattle.station_tables_opening.specs.Opens.{RefusesToOpen, RefusesToCreate}
 
 -- as they are opened: they aren't a centre's, their version is another, or memory, size or the disk ran out
 abbrev pub IsOpenRefusal : Refusal → Type 0

@@ -8,9 +8,9 @@ ghost use Rattle.channel_plan.specs.Refusal.{refused};
 ghost use Rattle.channel_view_model.specs.Centre.{Centre};
 ghost use Rattle.playout_actions.specs.Tables.{PrintsTable, TableHas};
 ghost use Rattle.station_tables_statements.specs.Rows.{StandsFor};
-ghost use Rattle.station_tables.specs.Store.{LeavesFound};
+ghost use Rattle.station_tables_opening.specs.Left.{LeavesFound};
 ghost use Rattle.playout_cli.specs.Kept.{BeginsWith};
-ghost use Rattle.station_tables.specs.Opens.{RefusesToOpen};
+ghost use Rattle.station_tables_opening.specs.Opens.{RefusesToOpen};
 ghost use Rattle.playout_cli.specs.Serving.{PrintHas};
 
 use channel_view_model::Table;

@@ -29,9 +29,9 @@
 //! channels, where they take few enough bytes, for a store over this one that has them at hand (`vaults`, `few`).
 //!
 //! Each call is one transaction on a connection with none open: those that commit (`station_tables_writing`), and the one
-//! that tests what is opened, before it is taken for a centre: its version, that each of its tables' rows reads, and
-//! that the set which they make keeps the rules. What a channel sees is read whole (`station_tables_reading`) and tested
-//! likewise (`shows`): rows that break a rule are answered `Unavailable`. Refused, a call leaves what was committed.
+//! that tests what is opened, before it is taken for a centre (`station_tables_opening`). What a channel sees is read
+//! whole (`station_tables_reading`) and tested likewise (`shows`): rows that break a rule are answered `Unavailable`.
+//! Refused, a call leaves what was committed.
 //!
 //! 98 is answered only where there is a version other than 1 and 2 (`version`), 97 never where there is
 //! (`known`), nor to a centre whose rows keep the rules (`ours`). What a stop leaves of a store opens, or is
@@ -39,17 +39,14 @@
 //! (`open_after_refusal`).
 #![tactic(auto)]
 
-mod by_channel;
 mod connected;
-mod finding;
 mod loading;
 mod memory;
-mod opening;
 mod stopped;
 mod store;
 mod view_testing;
 
 pub use connected::SqlRows;
-pub use finding::Version;
 pub use memory::centre_in_memory;
+pub use station_tables_opening::Version;
 pub use timecode::Unavailable;

@@ -6,12 +6,13 @@ ghost use Rattle.channel_plan.specs.Refusal.{refused};
 ghost use Rattle.channel_view_model.specs.Centre.{Centre};
 ghost use Rattle.station_tables_statements.specs.Rows.{Stands, StandsFor};
 ghost use Rattle.station_tables_writing.specs.Tables.{LeavesSets, MayLeave};
-ghost use Rattle.station_tables.specs.Store.{FindsLeft, HoldsAt, LeavesCentres, LeavesFound, store_plan, store_state};
+ghost use Rattle.station_tables_opening.specs.Left.{FindsLeft, HoldsAt, LeavesCentres, LeavesFound};
+ghost use Rattle.station_tables.specs.Store.{store_plan, store_state};
 
 use crate::connected::SqlRows;
-use crate::finding::Version;
 use channel_plan::{Code, Refusal};
 use sqlite::{Alter, Connection};
+use station_tables_opening::Version;
 use std::alloc::Global;
 
 impl<S: Alter> SqlRows<S> {

@@ -9,18 +9,17 @@ ghost use Rattle.station_tables_statements.specs.Calls.{HasKnownSchema};
 ghost use Rattle.station_tables_statements.specs.Rows.{channels_in, plan_in_order};
 ghost use Rattle.station_tables_writing.specs.Tables.{LeavesSets, MayLeave};
 ghost use Rattle.station_tables.specs.Store.{StandsWithPlan, store_plan, store_state};
-ghost use Rattle.station_tables.specs.Opens.{Creates, Opens, RefusesToCreate, RefusesToOpen};
+ghost use Rattle.station_tables_opening.specs.Opens.{Creates, Opens, RefusesToCreate, RefusesToOpen};
 
 use crate::connected::SqlRows;
-use crate::finding::Version;
 use crate::loading::{fetch_part, load_day_counts, load_vaults, load_view};
-use crate::opening::open_centre;
 use channel_plan::{Code, PlanRow, Refusal, is_plan, plan_row};
 use channel_view_model::{
     CentreRows, Change, CountsDays, Need, Part, RowStore, Table, TableFault, View,
 };
 use reports::DayCounts;
 use sqlite::{Alter, Connection};
+use station_tables_opening::open_centre;
 use station_tables_reading::write_table;
 use station_tables_writing::{commit_change, create_centre, rows_in_order};
 use std::alloc::Global;

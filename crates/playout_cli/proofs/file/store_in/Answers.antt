@@ -2,7 +2,7 @@
 use Rattle.std.proofs.Common.{sym, ◌∙◌}
 use Rattle.std.proofs.lemmas.Result.{IfOk-weaker, IfErr-weaker}
 use Rattle.sqlite.specs.Held.{state}
-use Rattle.station_tables.proofs.FindLemmas.{known_of}
+use Rattle.station_tables_opening.proofs.FindLemmas.{known_of}
 use Rattle.station_tables.proofs.KeptLemmas.{ok_both}
 use Rattle.playout_cli.proofs.KeptLemmas.{begins_found, begins_bare, stands_with_plan, nothing_committed}
 use Rattle.playout_cli.proofs.ServingLemmas.{opened_refused, made_refused}

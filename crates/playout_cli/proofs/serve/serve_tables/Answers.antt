@@ -4,7 +4,7 @@ use Rattle.std.proofs.lemmas.Result.{IfOk-weaker}
 use Rattle.sqlite.specs.State.{HasCleanDisk}
 use Rattle.sqlite.specs.Held.{state}
 use Rattle.station_tables_statements.specs.Rows.{StandsFor}
-use Rattle.station_tables.proofs.FindLemmas.{known_of}
+use Rattle.station_tables_opening.proofs.FindLemmas.{known_of}
 use Rattle.station_tables.specs.Store.{StandsWithPlan}
 use Rattle.station_tables_writing.specs.Tables.{MayLeave}
 use Rattle.rows_at_hand.specs.AtHand.{AreVaultsOf}

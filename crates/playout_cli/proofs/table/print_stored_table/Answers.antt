@@ -7,8 +7,8 @@ use Rattle.sqlite.specs.Held.{state}
 use Rattle.playout_actions.specs.Tables.{PrintsTable, TableHas, IsTableFault}
 use Rattle.station_tables_statements.specs.Rows.{StandsFor}
 use Rattle.playout_cli.specs.Kept.{BeginsWith}
-use Rattle.station_tables.specs.Opens.{RefusesToOpen}
-use Rattle.station_tables.proofs.FindLemmas.{known_of}
+use Rattle.station_tables_opening.specs.Opens.{RefusesToOpen}
+use Rattle.station_tables_opening.proofs.FindLemmas.{known_of}
 use Rattle.playout_cli.proofs.KeptLemmas.{stands_with_plan}
 use Rattle.playout_cli.proofs.ServingLemmas.{ok_where, err_where, table_has}
 use Rattle.playout_cli.proofs.table.print_stored_table.Goals as goal

@@ -6,7 +6,7 @@ use Rattle.sqlite.proofs.Callers.{memory_is_clean}
 use Rattle.channel_view_model.specs.Centre.{Centre}
 use Rattle.station_tables_records.specs.Schema.{no_schema}
 use Rattle.station_tables_statements.specs.Rows.{BeginsBare, Stands, plan_in_order}
-use Rattle.station_tables.specs.declared.finding.Version.TheVariants.{Second}
+use Rattle.station_tables_opening.specs.declared.finding.Version.TheVariants.{Second}
 use Rattle.station_tables.specs.Store.{store_state}
 use Rattle.station_tables.proofs.memory.centre_in_memory.Goals as goal
 

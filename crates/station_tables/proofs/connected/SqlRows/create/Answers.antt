@@ -1,7 +1,7 @@
 -- `SqlRows::create`: makes the ten tables, the version and the channels of the plan, in one transaction.
 use Rattle.std.proofs.Common.{rules}
 use Rattle.station_tables_writing.proofs.StandLemmas.{leaves_alone}
-use Rattle.station_tables.proofs.OpenLemmas.{stands_alone}
+use Rattle.station_tables_opening.proofs.OpenLemmas.{stands_alone}
 use Rattle.station_tables.proofs.connected.SqlRows.create.Goals as goal
 
 pub returns-in-Ok-create_centre-clause-made : goal.returns-in-Ok-create_centre-clause-made

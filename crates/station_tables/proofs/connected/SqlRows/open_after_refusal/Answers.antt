@@ -5,9 +5,9 @@ use Rattle.sqlite.specs.Held.{state}
 use Rattle.channel_view_model.specs.Centre.{Centre}
 use Rattle.station_tables_statements.specs.Rows.{Stands}
 use Rattle.station_tables.specs.Store.{store_state}
-use Rattle.station_tables.proofs.FindLemmas.{known_of}
+use Rattle.station_tables_opening.proofs.FindLemmas.{known_of}
 use Rattle.station_tables.proofs.KeptLemmas.{ok_both}
-use Rattle.station_tables.proofs.StopLemmas.{centre_in, found_tables, rows_held}
+use Rattle.station_tables_opening.proofs.StopLemmas.{centre_in, found_tables, rows_held}
 use Rattle.station_tables.proofs.connected.SqlRows.open_after_refusal.Goals as goal
 
 pub returns-clause-ok : goal.returns-clause-ok

@@ -3,7 +3,7 @@ use Rattle.std.proofs.lemmas.Result.{IfOk-weaker, IfErr-weaker}
 use Rattle.sqlite.specs.Held.{state}
 use Rattle.station_tables_writing.proofs.StandLemmas.{leaves_alone}
 use Rattle.station_tables.specs.Store.{store_state}
-use Rattle.station_tables.proofs.StopLemmas.{leaves_centres, second_held}
+use Rattle.station_tables_opening.proofs.StopLemmas.{leaves_centres, second_held}
 use Rattle.station_tables.proofs.connected.SqlRows.open_after_stop.Goals as goal
 
 pub returns-clause-ok : goal.returns-clause-ok

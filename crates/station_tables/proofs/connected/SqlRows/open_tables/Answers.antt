@@ -2,7 +2,7 @@
 use Rattle.std.proofs.Common.{sym, subst}
 use Rattle.channel_plan.specs.declared.refusal.Refusal.{Refusal}
 use Rattle.sqlite.specs.Held.{state}
-use Rattle.station_tables.specs.Opens.{RefusesToOpen}
+use Rattle.station_tables_opening.specs.Opens.{RefusesToOpen}
 use Rattle.station_tables.proofs.connected.SqlRows.open_tables.Goals as goal
 
 pub returns-in-Err-clause-refused : goal.returns-in-Err-clause-refused

@@ -1,0 +1,5 @@
+pub mod OpenLemmas
+pub mod StopLemmas
+mod AiringOpenLemmas
+mod PartLemmas
+pub mod FindLemmas
