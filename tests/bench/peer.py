@@ -87,9 +87,9 @@ def of_peer(program: str, room: str, rounds: int) -> bool:
 
 
 def self_test(program: str) -> bool:
-    """Whether the judges can say no, and the C peer answers as conversations do. Without an office fewer of these are
-    played."""
+    """Whether the judges can say no, also of how long a clone waits, and the C peer answers as conversations do. Without an
+    office fewer of these are played."""
     packages.install("bench", lambda: packages.absent(PACKAGES))
     os.environ["PLAYOUT"] = program
-    tests = unittest.defaultTestLoader.loadTestsFromNames(["test_peer"])
+    tests = unittest.defaultTestLoader.loadTestsFromNames(["test_first", "test_peer"])
     return unittest.TextTestRunner(verbosity=2).run(tests).wasSuccessful()
