@@ -2,13 +2,14 @@
 ghost use Rattle.std.specs.Prelude.{◌≡◌, ◌==◌, [], ◌∷◌, false, Err, OnOk, OnErr, count_by};
 ghost use Rattle.std.specs.List.{flat_map};
 ghost use Rattle.std.specs.Io.KnownBytes.{Appends};
-ghost use Rattle.reports.specs.Output.{AppendsPart};
-ghost use Rattle.reports.specs.Lent.{grants_have_labels, lent_line, lent_text};
-ghost use Rattle.reports.specs.declared.fault.RowFault.TheVariants.{NoLabel};
+ghost use Rattle.report_texts.specs.Output.{AppendsPart};
+ghost use Rattle.report_texts.specs.Lent.{grants_have_labels, lent_line, lent_text};
+ghost use Rattle.report_texts.specs.declared.fault.RowFault.TheVariants.{NoLabel};
 ghost use Rattle.channel_view_model.specs.Seen.{grants_to, grant_lines};
 
 use grant_core::Grant;
-use reports::{RowFault, write_grant, write_lent_end};
+use report_texts::RowFault;
+use reports::{write_grant, write_lent_end};
 use std::alloc::Global;
 use std::io::Write;
 use timecode::Unavailable;

@@ -4,7 +4,7 @@ ghost use Rattle.std.specs.Prelude.{IfOk, IfErr, IfSome, IfNone, IsTrue, is_some
 ghost use Rattle.std.specs.Prelude.{OnOk, OnErr, IsPermutation};
 ghost use Rattle.std.specs.Io.KnownBytes.{Appends};
 ghost use Rattle.std.specs.List.Sorted.{IsNonDecreasingBy};
-ghost use Rattle.reports.specs.Output.{AppendsPart};
+ghost use Rattle.report_texts.specs.Output.{AppendsPart};
 ghost use Rattle.channel_plan.specs.Refusal.{refused};
 ghost use Rattle.channel_plan.specs.Plan.{is_plan as is_plan_of};
 ghost use Rattle.vault_core.specs.Questions.{listed};
@@ -41,7 +41,7 @@ use channel_view_rules::{
 };
 use grant_core::{Grant, LentRows, OffersAsked, OffersFound, OpenOffer, is_open_to};
 use playlist_core::{DayPlan, Source, SourcesFound};
-use reports::RowFault;
+use report_texts::RowFault;
 use std::alloc::Global;
 use std::io::Write;
 use std::marker::Model;

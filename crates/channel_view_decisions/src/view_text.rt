@@ -1,11 +1,12 @@
 //! The text of a table of what one channel sees.
 ghost use Rattle.std.specs.Prelude.{◌≡◌, IfOk, OnOk, OnErr};
 ghost use Rattle.std.specs.Io.KnownBytes.{Appends};
-ghost use Rattle.reports.specs.Output.{AppendsPart};
+ghost use Rattle.report_texts.specs.Output.{AppendsPart};
 ghost use Rattle.channel_view_model.specs.TableText.{table_text};
 
 use channel_view_model::{Table, TableText, View};
-use reports::{RowFault, write_clips, write_days, write_lent, write_offers, write_vault};
+use report_texts::RowFault;
+use reports::{write_clips, write_days, write_lent, write_offers, write_vault};
 use std::alloc::Global;
 use std::io::Write;
 use timecode::Unavailable;

@@ -16,7 +16,7 @@ use Rattle.vault_core.specs.Own.{Own}
 use Rattle.vault_core.specs.Rules.{is_numbered_from, is_offer, KeepsOwnRules}
 use Rattle.grant_core.specs.declared.grant.Grant.{Grant}
 use Rattle.grant_core.specs.Command.{OfferMayBePut}
-use Rattle.reports.specs.Lent.{lent_line}
+use Rattle.report_texts.specs.Lent.{lent_line}
 use Rattle.channel_view_model.specs.declared.command.VaultChange.{VaultChange}
 use Rattle.channel_view_model.specs.declared.command.VaultChange.TheVariants.{Tape as TapeRow, Clip as ClipRow}
 use Rattle.channel_view_model.specs.declared.command.VaultChange.TheVariants.{Offer as OfferRow}

@@ -9,7 +9,7 @@ use Rattle.asrun_match.specs.declared.day.DayAsRun.{DayAsRun}
 use Rattle.asrun_match.specs.Aired.{Airing, aired_picture}
 use Rattle.asrun_match.specs.Batches.{if_sealed}
 use Rattle.asrun_match.specs.Status.{statuses_of}
-use Rattle.reports.specs.Asrun.{status_table}
+use Rattle.report_texts.specs.Asrun.{status_table}
 
 -- nothing aired of a day of the channel
 abbrev pub no_airing : PlanRow → Airing

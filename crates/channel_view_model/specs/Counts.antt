@@ -2,8 +2,8 @@
 use Rattle.std.specs.Prelude.{List, map}
 use Rattle.playlist_core.specs.Day.{Day}
 use Rattle.asrun_match.specs.declared.day.DayAsRun.{DayAsRun}
-use Rattle.reports.specs.declared.days.DayCounts.{DayCounts}
-use Rattle.reports.specs.Days.{batches_of, day_counts}
+use Rattle.report_texts.specs.declared.counts.DayCounts.{DayCounts}
+use Rattle.report_texts.specs.Days.{batches_of, day_counts}
 use Rattle.channel_view_model.specs.declared.view.View.{View}
 
 -- of each of these days, of which this was aired

@@ -36,7 +36,7 @@ use Rattle.playlist_core.specs.Day.{Day, day_opened, day_sealed, number_removed,
 use Rattle.playlist_core.specs.Difference.{changed_day}
 use Rattle.playlist_edl.specs.Importing.{counts_of, events_in, import_of}
 use Rattle.playlist_edl.specs.Exporting.{exported}
-use Rattle.reports.specs.Playlist.{plan_text}
+use Rattle.report_texts.specs.Playlist.{plan_text}
 use Rattle.channel_plan.specs.declared.refusal.Code.TheVariants.{NoDay}
 use Rattle.channel_plan.specs.Refusal.{refused}
 use Rattle.asrun_match.specs.Aired.{Airing}

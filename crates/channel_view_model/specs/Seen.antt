@@ -8,7 +8,7 @@ use Rattle.grant_core.specs.declared.grant.Grant.{Grant}
 use Rattle.playlist_core.specs.Source.{SourcesSeen}
 use Rattle.playlist_core.specs.Day.{Day}
 use Rattle.asrun_match.specs.declared.day.DayAsRun.{DayAsRun}
-use Rattle.reports.specs.Lent.{lent_line}
+use Rattle.report_texts.specs.Lent.{lent_line}
 use Rattle.channel_view_model.specs.declared.view.View.{View}
 use Rattle.channel_view_model.specs.Tables.{Table}
 

@@ -1,6 +1,6 @@
 -- Why a table isn't written whole, where the line of one of its rows isn't.
-use Rattle.reports.specs.declared.fault.RowFault.{RowFault}
-use Rattle.reports.specs.declared.fault.RowFault.TheVariants as row
+use Rattle.report_texts.specs.declared.fault.RowFault.{RowFault}
+use Rattle.report_texts.specs.declared.fault.RowFault.TheVariants as row
 use Rattle.channel_view_model.specs.declared.table.TableFault.{TableFault}
 use Rattle.channel_view_model.specs.declared.table.TableFault.TheVariants.{Write, Unavailable}
 

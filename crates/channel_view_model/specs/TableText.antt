@@ -1,10 +1,10 @@
 -- The text of a table of one channel.
 use Rattle.std.specs.Prelude.{ℕ, List, [], Option, Some, None}
-use Rattle.reports.specs.Vault.{vault_text}
-use Rattle.reports.specs.Clips.{clip_text}
-use Rattle.reports.specs.Offers.{offer_text}
-use Rattle.reports.specs.Lent.{lent_text}
-use Rattle.reports.specs.Days.{days_text}
+use Rattle.report_texts.specs.Vault.{vault_text}
+use Rattle.report_texts.specs.Clips.{clip_text}
+use Rattle.report_texts.specs.Offers.{offer_text}
+use Rattle.report_texts.specs.Lent.{lent_text}
+use Rattle.report_texts.specs.Days.{days_text}
 use Rattle.channel_view_model.specs.declared.table.Table.{Table}
 use Rattle.channel_view_model.specs.declared.table.Table.TheVariants.{Vault, Clips, Offers, Lent, Days}
 use Rattle.channel_view_model.specs.declared.view.View.{View}

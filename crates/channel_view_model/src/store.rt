@@ -2,7 +2,7 @@
 ghost use Rattle.std.specs.Prelude.{◌≡◌, ◌⊎◌, is_some, IfOk, OnOk, OnErr, IsOk};
 ghost use Rattle.std.specs.Option.{option_map};
 ghost use Rattle.std.specs.Io.KnownBytes.{Appends};
-ghost use Rattle.reports.specs.Output.{AppendsPart};
+ghost use Rattle.report_texts.specs.Output.{AppendsPart};
 ghost use Rattle.channel_view_model.specs.Centre.{Centre, view_of, changed, IsChangeOf};
 ghost use Rattle.channel_view_model.specs.Counts.{counts_seen};
 ghost use Rattle.channel_view_model.specs.Need.{IsFetched};
@@ -15,7 +15,7 @@ use crate::need::Need;
 use crate::part::Part;
 use crate::table::{Table, TableFault};
 use crate::view::View;
-use reports::DayCounts;
+use report_texts::DayCounts;
 use std::io::Write;
 use timecode::Unavailable;
 

@@ -1,7 +1,7 @@
 //! The tables of one channel, as text to read.
 ghost use Rattle.std.specs.Prelude.{◌≡◌, bytes_eq};
 
-use reports::{RowFault, WriteFault};
+use report_texts::{RowFault, WriteFault};
 use std::marker::Model;
 use timecode::Unavailable;
 

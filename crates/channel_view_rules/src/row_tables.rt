@@ -4,20 +4,21 @@ ghost use Rattle.std.specs.List.{flat_map};
 ghost use Rattle.std.specs.Option.{option_map};
 ghost use Rattle.std.specs.Io.KnownBytes.{Appends};
 ghost use Rattle.vault_core.specs.Rules.{slots_of};
-ghost use Rattle.reports.specs.Output.{AppendsPart};
-ghost use Rattle.reports.specs.Vault.{tape_line, vault_text};
-ghost use Rattle.reports.specs.Clips.{clip_line, clip_text, clips_have_labels};
-ghost use Rattle.reports.specs.declared.fault.RowFault.TheVariants.{NoLabel};
-ghost use Rattle.reports.specs.Offers.{offer_line, offer_text};
-ghost use Rattle.reports.specs.Days.{batches_of, day_line, days_text};
+ghost use Rattle.report_texts.specs.Output.{AppendsPart};
+ghost use Rattle.report_texts.specs.Vault.{tape_line, vault_text};
+ghost use Rattle.report_texts.specs.Clips.{clip_line, clip_text, clips_have_labels};
+ghost use Rattle.report_texts.specs.declared.fault.RowFault.TheVariants.{NoLabel};
+ghost use Rattle.report_texts.specs.Offers.{offer_line, offer_text};
+ghost use Rattle.report_texts.specs.Days.{batches_of, day_line, days_text};
 ghost use Rattle.channel_view_model.specs.Tables.{rows_alone};
 
 use asrun_match::DayAsRun;
 use channel_plan::PlanRow;
 use playlist_core::DayPlan;
+use report_texts::{RowFault, WriteFault};
 use reports::{
-    RowFault, WriteFault, counts_of, write_clip, write_clips_end, write_day, write_days_end,
-    write_offer, write_offers_end, write_tape, write_vault_end,
+    counts_of, write_clip, write_clips_end, write_day, write_days_end, write_offer,
+    write_offers_end, write_tape, write_vault_end,
 };
 use std::io::Write;
 use timecode::Rate;

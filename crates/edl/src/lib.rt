@@ -47,7 +47,7 @@ mod values;
 mod write;
 
 pub use crate::edits::EditType;
-pub use crate::list::{Event, EventList, Events, MAX_EVENT_NUMBER, MAX_EVENTS, Notes};
+pub use crate::list::{Event, EventList, Events, LIST_LIMIT, MAX_EVENT_NUMBER, MAX_EVENTS, Notes};
 pub use crate::read::read_from_string;
 pub use crate::rewriting::can_be_written;
 pub use crate::write::{OutEvent, write_to_string};

@@ -13,6 +13,9 @@ pub const MAX_EVENT_NUMBER: u16 = 9_999;
 /// The most events of a list that count: an event whose source and record both have no frame doesn't.
 pub const MAX_EVENTS: u16 = 9_999;
 
+/// The most bytes of a list.
+pub const LIST_LIMIT: usize = 1_000_000;
+
 /// Notes, in the order of their lines. Contracts see the list of their texts.
 #[derive(Debug, Drop)]
 pub struct Notes<'a> {

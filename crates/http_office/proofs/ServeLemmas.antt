@@ -14,7 +14,7 @@ use Rattle.http_office_answers.specs.Answer.{answer_bytes}
 use Rattle.http_office_requests.specs.FoundPiece.{IsNext, IsFramingProgress, status_of}
 use Rattle.http_office_requests.specs.Found.{OfPiece}
 use Rattle.http_office.specs.Run.{HasAnswered}
-use Rattle.reports.specs.Output.{AppendsPart}
+use Rattle.report_texts.specs.Output.{AppendsPart}
 use Rattle.http_office.specs.Stream.{goes_on, Begins, AllGoOn, bytes_of_all}
 use Rattle.http_office.specs.Serving.{Serves}
 use Rattle.http_office.specs.Turn.{ActsOn, TakesTurn, Stops, AnswersWhole, SoFar, HasServed, ReadsMore}

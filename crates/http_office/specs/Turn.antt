@@ -9,7 +9,7 @@ use Rattle.http_office_answers.specs.Answer.{answer_bytes}
 use Rattle.http_office_requests.specs.FoundPiece.{IsFramingProgress}
 use Rattle.http_office.specs.Run.{HasAnswered}
 use Rattle.http_office.specs.Stream.{goes_on, Begins, AllGoOn, EndsWithLast, StopsIn, bytes_of_all}
-use Rattle.reports.specs.Output.{AppendsPart}
+use Rattle.report_texts.specs.Output.{AppendsPart}
 use Rattle.http_office_answers.specs.declared.answers.Answer.{Answer}
 use Rattle.http_office_requests.specs.declared.piece.FramingProgress.{FramingProgress}
 use Rattle.http_office.specs.declared.serving.ServeFault.{ServeFault}

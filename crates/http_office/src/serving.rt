@@ -4,13 +4,13 @@ ghost use Rattle.std.specs.Io.KnownBytes.{Appends};
 ghost use Rattle.http_office_requests.specs.Found.{OfPiece};
 ghost use Rattle.http_office_requests.specs.FoundPiece.{IsNext, IsFramingProgress};
 ghost use Rattle.http_office.specs.Serving.{Serves};
-ghost use Rattle.reports.specs.Output.{AppendsPart};
+ghost use Rattle.report_texts.specs.Output.{AppendsPart};
 ghost use Rattle.http_office.specs.Turn.{ActsOn, AnswersWhole, ReadsMore, TakesTurn};
 
 use crate::messages::answer_piece;
 use channel_view_model::RowStore;
 use http_office_requests::{FoundPiece, FramingProgress, Routes, is_plainly_partial, next_piece};
-use reports::{WriteFault, send};
+use report_texts::{WriteFault, send};
 use std::alloc::Global;
 use std::io::{Read, Write};
 

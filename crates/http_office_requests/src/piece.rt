@@ -5,6 +5,7 @@ ghost use Rattle.http_office_requests.specs.Piece.{IsHeadText, IsPartial, framin
 ghost use Rattle.http_office_requests.specs.Piece.{values_of as named_values};
 ghost use Rattle.http_office_requests.specs.FoundPiece.{AreValues, FramesBy, IsFramed, IsNext, IsFramingProgress, IsWholeHead};
 
+use edl::LIST_LIMIT;
 use httparse::Status;
 use httparse::spans::{EMPTY_HEADER_SPAN, HeaderSpan, Span, parse_request};
 use timecode::decimal_number;
@@ -12,8 +13,8 @@ use timecode::decimal_number;
 /// The most bytes of a head, with the empty line that ends it.
 const HEAD_LIMIT: usize = 8192;
 
-/// The most bytes of a body.
-pub const BODY_LIMIT: u64 = 1_000_000;
+/// The most bytes of a body, which may be a list.
+pub const BODY_LIMIT: u64 = LIST_LIMIT as u64;
 
 /// The most header fields of a head.
 const FIELD_LIMIT: usize = 32;

@@ -3,7 +3,7 @@ use Rattle.std.specs.Prelude.{◌≡◌, ℕ, List, [], Option, Some, None}
 use Rattle.std.specs.Io.KnownBytes.{Appends}
 use Rattle.channel_plan.specs.declared.refusal.Code.TheVariants as code
 use Rattle.channel_plan.specs.Refusal.{refused}
-use Rattle.reports.specs.Output.{AppendsPart}
+use Rattle.report_texts.specs.Output.{AppendsPart}
 use Rattle.channel_view_model.specs.Centre.{Centre, view_of}
 use Rattle.channel_view_model.specs.TableText.{table_text, text_at}
 use Rattle.channel_view_model.specs.declared.table.Table.{Table}

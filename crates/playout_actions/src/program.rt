@@ -11,7 +11,7 @@ use playout_lists::{
     Fault, FaultLines, FaultWriter, Lists, StreamFault, check_files, check_input, compare_files,
     compared_status, count_lines, exit_status, list_input, print_frame, served_status,
 };
-use reports::send;
+use report_texts::send;
 use std::alloc::Global;
 use std::io::{Read, Write};
 use timecode::Rate;

@@ -10,7 +10,7 @@ use Rattle.channel_plan.specs.declared.refusal.Code.TheVariants as code
 use Rattle.channel_plan.specs.declared.refusal.Refusal.{Refusal}
 use Rattle.channel_plan.specs.Refusal.{refused}
 use Rattle.channel_view_model.specs.Centre.{Centre}
-use Rattle.reports.specs.Output.{AppendsPart}
+use Rattle.report_texts.specs.Output.{AppendsPart}
 use Rattle.http_office_requests.specs.Request.{request_of}
 use Rattle.http_office.specs.Run.{rows_left_by}
 use Rattle.http_office.specs.Serving.{Serves}

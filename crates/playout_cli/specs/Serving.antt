@@ -15,7 +15,7 @@ use Rattle.playout_actions.specs.Answering.{ServesOn, stream_fault_of}
 use Rattle.playout_lists.specs.Telling.{Told}
 use Rattle.playout_peers.specs.Wire.{unknown}
 use Rattle.playout_peers.specs.Peers.{Done, Ending, AreServed, asked_in, answers_in}
-use Rattle.reports.specs.Output.{AppendsPart}
+use Rattle.report_texts.specs.Output.{AppendsPart}
 use Rattle.http_office.specs.Run.{AnswersAll, rows_left_by, stop_after_messages}
 use Rattle.playout_cli.specs.Refusing.{IsOpenRefusal}
 

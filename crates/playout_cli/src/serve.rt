@@ -14,14 +14,14 @@ ghost use Rattle.playout_cli.specs.Kept.{BeginsWith};
 ghost use Rattle.station_tables_opening.specs.Opens.{RefusesToOpen};
 ghost use Rattle.playout_cli.specs.Serving.{PortHas, PortOverHas, SaysPort, ServesOver, most_of};
 ghost use Rattle.playout_cli.specs.Serving.{text_of_serving, line_of_serving};
-ghost use Rattle.reports.specs.Output.{AppendsPart};
+ghost use Rattle.report_texts.specs.Output.{AppendsPart};
 
 use crate::machine::Ports;
 use crate::vaults::with_vaults;
 use channel_view_model::RowStore;
 use playout_lists::{Fault, FaultLines, FaultWriter, StreamFault};
 use playout_peers::{Door, InTurn, Limits, serve_peers};
-use reports::{LineBuffer, WriteFault, print_line, push, push_decimal};
+use report_texts::{LineBuffer, WriteFault, print_line, push, push_decimal};
 use rows_at_hand::RecentDays;
 use sqlite::{Alter, Connection};
 use station_tables::SqlRows;

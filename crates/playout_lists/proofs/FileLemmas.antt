@@ -8,8 +8,8 @@ use Rattle.std.proofs.KnownBytes.{Appends-nil, Appends-trans, Keeps-refl}
 use Rattle.std.proofs.lemmas.List.{append-nil, append_assoc, map-append, take_more, take-map, drop-map, drop_more}
 use Rattle.timecode.specs.declared.rates.Rate.{Rate}
 use Rattle.edl.specs.Texts.{texts_of}
-use Rattle.reports.specs.Output.{AppendsPart}
-use Rattle.reports.proofs.PartLemmas.{part_behind}
+use Rattle.report_texts.specs.Output.{AppendsPart}
+use Rattle.report_texts.proofs.PartLemmas.{part_behind}
 use Rattle.playout_lists.specs.declared.fault.Fault.{Fault}
 use Rattle.playout_lists.specs.declared.fault.Fault.TheVariants.{List as OfList, Stream}
 use Rattle.channel_plan.specs.declared.fault.ListFault.{ListFault}

@@ -1,11 +1,11 @@
 -- A list from an input is checked, and what it holds is counted.
 use Rattle.std.specs.Prelude.{◌≡◌, ℕ, ◌+◌, ◌-◌, false, List, [], ◌∷◌, ◌++◌, Option, Some, length, sum, map, filter}
 use Rattle.std.specs.Prelude.{codes, decimal}
-use Rattle.http_office_requests.specs.Limits.{most_body_bytes}
 use Rattle.timecode.specs.declared.rates.Rate.{Rate}
 use Rattle.edl.specs.Entry.{EventEntry, is_picture}
 use Rattle.channel_plan.specs.declared.fault.ListFault.TheVariants as of_list
 use Rattle.edl.specs.Faults.{first_fault}
+use Rattle.edl.specs.Limits.{most_list_bytes}
 use Rattle.edl.specs.ListOf.{IsListOf}
 use Rattle.playout_lists.specs.declared.fault.Fault.{Fault}
 use Rattle.playout_lists.specs.declared.fault.Fault.TheVariants.{Label, List as OfList, Refused, NoChannel, Open}
@@ -31,7 +31,7 @@ counts_line head events = counts_text head events ++ 10 ∷ []
 
 -- the most bytes of a list, which are those of a body
 abbrev pub list_limit : ℕ
-list_limit = most_body_bytes
+list_limit = most_list_bytes
 
 -- a text is a list, and this line counts what it holds
 pub record ListTells (rate : Rate) (text line : List ℕ) : Type 0 where

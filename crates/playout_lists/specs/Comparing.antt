@@ -1,7 +1,7 @@
 -- The lists in two files, compared frame by frame.
 use Rattle.std.specs.Prelude.{◌≡◌, ◌⊎◌, ℕ, false, List, Option, Some}
 use Rattle.std.specs.Io.KnownBytes.{Appends, Keeps}
-use Rattle.reports.specs.Output.{AppendsPart}
+use Rattle.report_texts.specs.Output.{AppendsPart}
 use Rattle.timecode.specs.declared.rates.Rate.{Rate}
 use Rattle.edl.specs.Entry.{EventEntry}
 use Rattle.channel_plan.specs.declared.fault.ListFault.{ListFault}

@@ -1,7 +1,7 @@
 -- Lines of labels and frame numbers are answered.
 use Rattle.std.specs.Prelude.{◌≡◌, ℕ, List, Option, Some}
 use Rattle.std.specs.Io.KnownBytes.{Appends, Keeps}
-use Rattle.reports.specs.Output.{AppendsPart}
+use Rattle.report_texts.specs.Output.{AppendsPart}
 use Rattle.timecode.specs.declared.rates.Rate.{Rate}
 use Rattle.channel_plan.specs.declared.fault.ListFault.{ListFault}
 use Rattle.timecode_lines.specs.Lines.{answered, first_fault}

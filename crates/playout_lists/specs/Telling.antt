@@ -2,8 +2,8 @@
 use Rattle.std.specs.Prelude.{◌≡◌, ℕ, List, Option, None}
 use Rattle.std.specs.Io.KnownBytes.{Appends}
 use Rattle.std.specs.declared.io.traits.Write.{Ghosts as WriteGhosts}
-use Rattle.reports.specs.Output.{AppendsPart}
-use Rattle.reports.specs.declared.output.WriteFault.{WriteFault}
+use Rattle.report_texts.specs.Output.{AppendsPart}
+use Rattle.report_texts.specs.declared.output.WriteFault.{WriteFault}
 use Rattle.playout_lists.specs.declared.fault_writer.FaultLines.{FaultLines}
 use Rattle.playout_lists.specs.declared.fault_writer.FaultWriter.{Ghosts}
 

@@ -8,20 +8,16 @@ ghost use Rattle.edl.specs.Texts.{texts_of};
 ghost use Rattle.edl.specs.EntryShown.{entries_of, entry_shown};
 ghost use Rattle.playout_lists.specs.Checking.{ChecksInput, CheckHas, ListTells, note_count, counts_text};
 ghost use Rattle.playout_lists.specs.Counts.{text_of_counts};
-ghost use Rattle.reports.specs.Output.{AppendsPart};
+ghost use Rattle.report_texts.specs.Output.{AppendsPart};
 
 use crate::fault::Fault;
 use crate::streams::{StreamFault, read_input};
 use channel_plan::ListFault;
-use edl::{Event, read_from_string};
-use http_office_requests::BODY_LIMIT;
-use reports::{LineBuffer, print_line, push, push_decimal};
+use edl::{Event, LIST_LIMIT, read_from_string};
+use report_texts::{LineBuffer, print_line, push, push_decimal};
 use std::alloc::Global;
 use std::io::{Read, Write};
 use timecode::Rate;
-
-/// The most bytes of a list, which are those of a body.
-pub(crate) const LIST_LIMIT: usize = BODY_LIMIT as usize;
 
 // How many events are for the picture.
 fn pictures(events: &[Event<'_>]) -> usize

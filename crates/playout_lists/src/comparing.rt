@@ -13,7 +13,7 @@ use crate::status::exit_status;
 use crate::streams::{InputFault, StreamFault};
 use edl::read_from_string;
 use edl_diff::comparison_lines;
-use reports::send;
+use report_texts::send;
 use std::alloc::Global;
 use std::io::Write;
 use timecode::Rate;

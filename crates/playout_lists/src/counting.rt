@@ -5,7 +5,7 @@ ghost use Rattle.playout_lists.specs.Counting.{CountsInput, CountHas};
 
 use crate::fault::Fault;
 use crate::streams::{InputFault, StreamFault, read_input};
-use reports::send;
+use report_texts::send;
 use std::alloc::Global;
 use std::io::{Read, Write};
 use timecode::Rate;

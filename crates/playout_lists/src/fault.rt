@@ -5,7 +5,7 @@ ghost use Rattle.playout_lists.specs.declared.streams.StreamFault.TheVariants.{I
 
 use crate::streams::{InputFault, StreamFault};
 use channel_plan::{At, Code, ListFault, Refusal};
-use reports::WriteFault;
+use report_texts::WriteFault;
 use std::error::Error;
 use std::fmt;
 use timecode::TcFault;

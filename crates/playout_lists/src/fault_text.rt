@@ -8,7 +8,7 @@ ghost use Rattle.playout_lists.specs.Fault.{line_of, stream_fault_text, text_of}
 use crate::fault::Fault;
 use crate::streams::{InputFault, StreamFault};
 use channel_plan::{At, LineFault, ListFault, Refusal};
-use reports::{LineBuffer, push, push_decimal};
+use report_texts::{LineBuffer, push, push_decimal};
 use timecode::TcFault;
 
 // A number and a name.

@@ -2,9 +2,9 @@
 //! a ghost field may not lead back to them.
 ghost use Rattle.std.specs.Prelude.{◌≡◌, ◌≢◌, Bool, true, None, OnOk, OnErr};
 ghost use Rattle.std.specs.Io.KnownBytes.{Appends};
-ghost use Rattle.reports.specs.Output.{AppendsPart};
+ghost use Rattle.report_texts.specs.Output.{AppendsPart};
 
-use reports::{WriteFault, send};
+use report_texts::{WriteFault, send};
 use std::io::Write;
 
 /// A writer for faults, which knows of itself whether a write has failed.

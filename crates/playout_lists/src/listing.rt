@@ -4,21 +4,17 @@ ghost use Rattle.std.specs.Io.KnownBytes.{Appends, Keeps};
 ghost use Rattle.edl.specs.EntryShown.{entries_of};
 ghost use Rattle.playout_lists.specs.Checking.{CheckHas};
 ghost use Rattle.playout_lists.specs.Listing.{ListsInput, events_text};
-ghost use Rattle.reports.specs.Output.{AppendsPart};
+ghost use Rattle.report_texts.specs.Output.{AppendsPart};
 
 use crate::fault::Fault;
 use crate::streams::{InputFault, StreamFault, read_input};
-use edl::{Event, read_from_string};
+use edl::{Event, LIST_LIMIT, read_from_string};
 use edl_lines::{csv_lines, json_lines};
-use http_office_requests::BODY_LIMIT;
 use playout_args::EventForm;
-use reports::send;
+use report_texts::send;
 use std::alloc::{AllocError, Global};
 use std::io::{Read, Write};
 use timecode::Rate;
-
-/// The most bytes of a list, which are those of a body.
-const LIST_LIMIT: usize = BODY_LIMIT as usize;
 
 // The events in a form.
 fn events_text(alloc: Global, form: EventForm, events: &[Event<'_>]) -> Result<Vec<u8>, AllocError>

@@ -3,7 +3,7 @@
 //! No contract knows which bytes a file holds. So [`Lists::gives`] stands for that, and each clause is of any machine.
 ghost use Rattle.std.specs.Prelude.{◌≡◌, ◌⊎◌, ◌&&◌, ◌++◌, ◌∷◌, [], ℕ, List, Option, true, false, IfOk, IfErr, OnOk};
 ghost use Rattle.std.specs.Io.KnownBytes.{Appends};
-ghost use Rattle.reports.specs.Output.{AppendsPart};
+ghost use Rattle.report_texts.specs.Output.{AppendsPart};
 ghost use Rattle.timecode.specs.declared.rates.Rate.{Rate};
 ghost use Rattle.playout_lists.specs.declared.fault.Fault.{Fault};
 ghost use Rattle.playout_lists.specs.Fault.{line_of};
@@ -13,12 +13,13 @@ ghost use Rattle.playout_lists.specs.Named.{ChecksFiles, FileHas, FileHolds, Fil
 ghost use Rattle.playout_lists.specs.Named.{StopsTaking, TakesFile, named_line, said_of};
 ghost use Rattle.playout_lists.specs.Telling.{Tells, has_told};
 
-use crate::checking::{Counts, LIST_LIMIT, counts_in, text_of};
+use crate::checking::{Counts, counts_in, text_of};
 use crate::fault::Fault;
 use crate::fault_text::line_of;
 use crate::fault_writer::{FaultLines, FaultWriter};
 use crate::streams::{InputFault, StreamFault, read_input};
-use reports::print_line;
+use edl::LIST_LIMIT;
+use report_texts::print_line;
 use std::alloc::{AllocError, Global};
 use std::io::{Read, Write};
 use timecode::Rate;

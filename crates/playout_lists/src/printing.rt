@@ -3,11 +3,11 @@ ghost use Rattle.std.specs.Prelude.{◌≡◌, ◌≢◌, ◌++◌, [], ◌∷�
 ghost use Rattle.std.specs.Io.KnownBytes.{Appends, Keeps};
 ghost use Rattle.timecode.specs.LabelReading.{reading_of_text};
 ghost use Rattle.playout_lists.specs.Printing.{PrintHas};
-ghost use Rattle.reports.specs.Output.{AppendsPart};
+ghost use Rattle.report_texts.specs.Output.{AppendsPart};
 
 use crate::fault::Fault;
 use crate::streams::StreamFault;
-use reports::{LineBuffer, print_line, push_decimal};
+use report_texts::{LineBuffer, print_line, push_decimal};
 use std::io::Write;
 use timecode::{Rate, from_timecode};
 

@@ -6,7 +6,7 @@ ghost use Rattle.playout_lists.specs.declared.streams.InputFault.TheVariants as 
 ghost use Rattle.playout_lists.specs.declared.streams.StreamFault.TheVariants.{Input, Write};
 ghost use Rattle.playout_lists.specs.Streams.{ReadsAll, InputHas};
 
-use reports::WriteFault;
+use report_texts::WriteFault;
 use std::alloc::{AllocError, Global};
 use std::error::Error;
 use std::fmt::{self, Display};

@@ -13,7 +13,7 @@ use Rattle.http_office_answers.specs.declared.answers.Answer.{Answer}
 use Rattle.http_office.specs.declared.serving.End.{End}
 use Rattle.http_office.specs.declared.serving.ServeFault.{ServeFault}
 use Rattle.http_office.specs.declared.serving.ServeFault.TheVariants.{Read, Write, Memory}
-use Rattle.reports.specs.Output.{AppendsPart}
+use Rattle.report_texts.specs.Output.{AppendsPart}
 use Rattle.playout_lists.specs.Fault.{line_of}
 use Rattle.playout_lists.specs.Telling.{Told, TellsAll}
 use Rattle.playout_lists.specs.declared.fault.Fault.TheVariants.{Stream}

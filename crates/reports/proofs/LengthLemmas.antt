@@ -7,8 +7,8 @@ use Rattle.vault_core.specs.Barcode.{is_barcode}
 use Rattle.vault_core.specs.Title.{is_title}
 use Rattle.playlist_core.specs.declared.day.DayState.{DayState}
 use Rattle.playlist_core.specs.declared.day.DayState.TheVariants.{NotThere, Open, Sealed}
-use Rattle.reports.specs.Offers.{offer_state}
-use Rattle.reports.specs.Playlist.{day_state}
+use Rattle.report_texts.specs.Offers.{offer_state}
+use Rattle.report_texts.specs.Playlist.{day_state}
 
 pub barcode_short : (text : List ℕ) → is_barcode text ≡ true → length text ≤ 8
 unfolding is_barcode

@@ -1,4 +1,2 @@
-pub mod PartLemmas
 pub mod LengthLemmas
-pub mod LineLemmas
 pub mod MatchLemmas

@@ -12,8 +12,8 @@ use Rattle.asrun_match.specs.declared.status.Status.{Status}
 use Rattle.asrun_match.specs.declared.status.Status.TheVariants.{Missed, Ok, Slip, Wrong}
 use Rattle.asrun_match.specs.Runs.{AreRunsOf, BeginsOther, LieInRow, spelled}
 use Rattle.asrun_match.proofs.DeterminedLemmas.{runs_determined}
-use Rattle.reports.specs.Asrun.{begins_run, counts_line, frames_with, is_status, match_text, run_at, run_line, runs_of}
-use Rattle.reports.specs.Asrun.{status_at, status_frames, status_table}
+use Rattle.report_texts.specs.Asrun.{begins_run, counts_line, frames_with, is_status, match_text, run_at, run_line, runs_of}
+use Rattle.report_texts.specs.Asrun.{status_at, status_frames, status_table}
 
 same_status : (s t : Status) → is_status s t ≡ true → s ≡ t
 same_status Missed Missed same = refl

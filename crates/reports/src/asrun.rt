@@ -2,18 +2,18 @@
 ghost use Rattle.std.specs.Prelude.{◌≡◌, ◌≤◌, ◌+◌, ◌++◌, length, IfOk, OnOk, OnErr};
 ghost use Rattle.std.specs.List.{flat_map};
 ghost use Rattle.std.specs.Io.KnownBytes.{Appends};
-ghost use Rattle.reports.specs.Output.{AppendsPart};
+ghost use Rattle.report_texts.specs.Output.{AppendsPart};
 ghost use Rattle.playlist_core.specs.Day.{picture_in};
 ghost use Rattle.playlist_core.specs.declared.day.DayState.TheVariants as DayState;
 ghost use Rattle.asrun_match.specs.Aired.{aired_picture};
 ghost use Rattle.asrun_match.specs.Status.{statuses_of};
-ghost use Rattle.reports.specs.Asrun.{frames_with as frames_in, match_end, match_text, run_line};
-ghost use Rattle.reports.specs.Asrun.{runs_of, status_table, status_text};
+ghost use Rattle.report_texts.specs.Asrun.{frames_with as frames_in, match_end, match_text, run_line};
+ghost use Rattle.report_texts.specs.Asrun.{runs_of, status_table, status_text};
 
-use crate::{LineBuffer, WriteFault, push, push_decimal, send};
 use asrun_match::{AiredDay, Run, Status, reconcile};
 use channel_plan::PlanRow;
 use playlist_core::{DayPlan, label_at};
+use report_texts::{LineBuffer, WriteFault, push, push_decimal, send};
 use std::alloc::Global;
 use std::io::Write;
 use timecode::Unavailable;

@@ -2,14 +2,13 @@
 ghost use Rattle.std.specs.Prelude.{◌≡◌, ◌≤◌, ◌+◌, ◌++◌, ◌↔◌, true, false, length, Err, IsOk, IfOk, OnOk, IfErr, OnErr};
 ghost use Rattle.std.specs.List.{flat_map};
 ghost use Rattle.std.specs.Io.KnownBytes.{Appends, Keeps};
-ghost use Rattle.reports.specs.Output.{AppendsPart};
-ghost use Rattle.reports.specs.Fields.{has_label};
-ghost use Rattle.reports.specs.Clips.{state_field, clip_line, clips_end, clip_text, clips_have_labels};
+ghost use Rattle.report_texts.specs.Output.{AppendsPart};
+ghost use Rattle.report_texts.specs.Fields.{has_label};
+ghost use Rattle.report_texts.specs.Clips.{state_field, clip_line, clips_end, clip_text, clips_have_labels};
 
 use crate::columns::{push_left, push_number};
-use crate::fault::RowFault;
 use crate::fields::{push_clip_reel, push_label, push_title, push_umid};
-use crate::{LineBuffer, WriteFault, push, push_decimal, send};
+use report_texts::{LineBuffer, RowFault, WriteFault, push, push_decimal, send};
 use std::io::Write;
 use timecode::Rate;
 use vault_core::Clip;

@@ -1,10 +1,10 @@
 //! Fields that stand in columns of a line.
 ghost use Rattle.std.specs.Prelude.{◌≡◌, ◌≤◌, ◌+◌, ◌++◌, length};
 ghost use Rattle.timecode.specs.Decimal.{in_digits};
-ghost use Rattle.reports.specs.Fields.{left_in, right_in, number_in};
+ghost use Rattle.report_texts.specs.Fields.{left_in, right_in, number_in};
 
-use crate::{LineBuffer, push, push_copies};
 use itoa::{Buffer, Integer};
+use report_texts::{LineBuffer, push, push_copies};
 
 /// A text at the left of so many places.
 pub(crate) fn push_left(line: &mut LineBuffer, width: usize, text: &[u8])

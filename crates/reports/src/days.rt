@@ -3,29 +3,16 @@ ghost use Rattle.std.specs.Prelude.{◌≡◌, ◌≤◌, ◌==◌, find, length
 ghost use Rattle.std.specs.List.{flat_map};
 ghost use Rattle.std.specs.Option.{option_map};
 ghost use Rattle.std.specs.Io.KnownBytes.{Appends};
-ghost use Rattle.reports.specs.Output.{AppendsPart};
-ghost use Rattle.reports.specs.Playlist.{day_state};
-ghost use Rattle.reports.specs.Days.{batches_of, counts_line, day_counts, day_line, days_end, days_text};
+ghost use Rattle.report_texts.specs.Output.{AppendsPart};
+ghost use Rattle.report_texts.specs.Playlist.{day_state};
+ghost use Rattle.report_texts.specs.Days.{batches_of, counts_line, day_counts, day_line, days_end, days_text};
 
 use crate::columns::{push_count, push_left, push_number};
 use crate::playlist::frames_of;
-use crate::{LineBuffer, WriteFault, push, push_decimal, send};
 use asrun_match::DayAsRun;
 use playlist_core::{DayPlan, DayState};
+use report_texts::{DayCounts, LineBuffer, WriteFault, push, push_decimal, send};
 use std::io::Write;
-
-/// What the days table tells of a day.
-#[derive(Clone, Copy, PartialEq, Eq)]
-pub struct DayCounts {
-    pub number: u32,
-    pub state: DayState,
-    /// How many items it has.
-    pub items: usize,
-    /// Their frames together.
-    pub frames: u64,
-    /// How many batches of what was aired came for it.
-    pub batches: usize,
-}
 
 /// What is told of a day for which so many batches came.
 pub fn counts_of(day: &DayPlan, batches: usize) -> DayCounts

@@ -4,12 +4,11 @@ ghost use Rattle.hex.specs.Hex.{encode_lower};
 ghost use Rattle.timecode.specs.Label.{frame_text};
 ghost use Rattle.umid.specs.BasicUmid.{basic_umid};
 ghost use Rattle.vault_core.specs.Reel.{clip_reel};
-ghost use Rattle.reports.specs.Fields.{has_label};
-ghost use Rattle.reports.specs.Offers.{window_field};
+ghost use Rattle.report_texts.specs.Fields.{has_label};
+ghost use Rattle.report_texts.specs.Offers.{window_field};
 
 use crate::columns::push_digits;
-use crate::fault::RowFault;
-use crate::{LineBuffer, push};
+use report_texts::{LineBuffer, RowFault, push};
 use timecode::{Rate, to_timecode};
 use umid::Umid;
 use vault_core::{Title, Window};

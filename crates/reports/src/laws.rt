@@ -8,7 +8,7 @@ ghost use Rattle.asrun_match.specs.declared.status.Status.TheVariants.{Missed, O
 ghost use Rattle.asrun_match.specs.Aired.{Airing, aired_picture};
 ghost use Rattle.asrun_match.specs.Runs.{AreRunsOf};
 ghost use Rattle.asrun_match.specs.Status.{statuses_of};
-ghost use Rattle.reports.specs.Asrun.{frames_with, match_text, runs_of, status_frames, status_table};
+ghost use Rattle.report_texts.specs.Asrun.{frames_with, match_text, runs_of, status_frames, status_table};
 
 /// The runs that are made of a list of statuses are its runs.
 pub fn runs_are_made()

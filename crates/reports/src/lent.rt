@@ -3,16 +3,15 @@ ghost use Rattle.std.specs.Prelude.{◌≡◌, ◌≤◌, ◌+◌, ◌++◌, ◌
 ghost use Rattle.std.specs.List.{flat_map};
 ghost use Rattle.std.specs.Io.KnownBytes.{Appends, Keeps};
 ghost use Rattle.grant_core.specs.Grant.{lent_reel};
-ghost use Rattle.reports.specs.Output.{AppendsPart};
-ghost use Rattle.reports.specs.Fields.{has_label};
-ghost use Rattle.reports.specs.Lent.{lent_line, lent_end, lent_text, grants_have_labels};
+ghost use Rattle.report_texts.specs.Output.{AppendsPart};
+ghost use Rattle.report_texts.specs.Fields.{has_label};
+ghost use Rattle.report_texts.specs.Lent.{lent_line, lent_end, lent_text, grants_have_labels};
 
 use crate::columns::{push_digits, push_left, push_number};
-use crate::fault::RowFault;
 use crate::fields::{push_label, push_title, push_umid, push_window};
 use crate::offers::state_of;
-use crate::{LineBuffer, WriteFault, push, push_decimal, send};
 use grant_core::Grant;
+use report_texts::{LineBuffer, RowFault, WriteFault, push, push_decimal, send};
 use std::io::Write;
 
 /// The reel of a lent clip.

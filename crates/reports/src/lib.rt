@@ -8,32 +8,26 @@
 //! up to some byte. A line is made before it is written, and its making fails only where a frame of it has no label
 //! ([`RowFault::NoLabel`]).
 //!
-//! `send` writes all of some bytes. A `WriteFault` says that a call of the writer gave an error or took
-//! nothing: no other crate can make one. A line is made within 256 bytes before it is written.
+//! The definitions of these texts, a line while it is made and what a writer took stand in `report_texts`. A line is
+//! made within 256 bytes before it is written.
 #![tactic(auto)]
 
 mod asrun;
 mod clips;
 mod columns;
 mod days;
-mod fault;
 mod fields;
 pub mod laws;
 mod lent;
-mod line;
 mod offers;
-mod output;
 mod playlist;
 mod vault;
 
 pub use asrun::{match_table, write_match, write_match_end, write_run, write_runs};
 pub use clips::{write_clip, write_clip_lines, write_clips, write_clips_end};
-pub use days::{DayCounts, counts_of, write_day, write_days, write_days_end};
-pub use fault::RowFault;
+pub use days::{counts_of, write_day, write_days, write_days_end};
 pub use lent::{write_grant, write_lent, write_lent_end};
-pub use line::{LineBuffer, push, push_copies, push_decimal};
 pub use offers::{write_offer, write_offer_lines, write_offers, write_offers_end};
-pub use output::{WriteFault, print_line, send};
 pub use playlist::{write_item, write_items, write_plan, write_plan_end, write_plan_head};
 pub use timecode::Unavailable;
 pub use vault::{count_shelved, write_tape, write_tapes, write_vault, write_vault_end};

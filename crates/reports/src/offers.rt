@@ -2,12 +2,12 @@
 ghost use Rattle.std.specs.Prelude.{◌≡◌, OnOk, OnErr};
 ghost use Rattle.std.specs.List.{flat_map};
 ghost use Rattle.std.specs.Io.KnownBytes.{Appends};
-ghost use Rattle.reports.specs.Output.{AppendsPart};
-ghost use Rattle.reports.specs.Offers.{offer_state, offer_line, offers_end, offer_text};
+ghost use Rattle.report_texts.specs.Output.{AppendsPart};
+ghost use Rattle.report_texts.specs.Offers.{offer_state, offer_line, offers_end, offer_text};
 
 use crate::columns::push_digits;
 use crate::fields::{push_clip_reel, push_window};
-use crate::{LineBuffer, WriteFault, push, push_decimal, send};
+use report_texts::{LineBuffer, WriteFault, push, push_decimal, send};
 use std::io::Write;
 use vault_core::Offer;
 

@@ -2,21 +2,20 @@
 ghost use Rattle.std.specs.Prelude.{◌≡◌, ◌≤◌, ◌+◌, ◌++◌, ◌↔◌, true, false, length, Err, IsOk, IfOk, OnOk, IfErr, OnErr};
 ghost use Rattle.std.specs.List.{flat_map};
 ghost use Rattle.std.specs.Io.KnownBytes.{Appends, Keeps};
-ghost use Rattle.reports.specs.Output.{AppendsPart};
+ghost use Rattle.report_texts.specs.Output.{AppendsPart};
 ghost use Rattle.playlist_core.specs.Limits.{most_items};
 ghost use Rattle.playlist_core.specs.Item.{kind_text};
 ghost use Rattle.playlist_core.specs.Source.{source_reel};
-ghost use Rattle.reports.specs.Fields.{left_in, has_label};
-ghost use Rattle.reports.specs.Playlist.{day_state, frames_of as frames_in, item_line, plan_end, plan_head, plan_text};
-ghost use Rattle.reports.specs.Playlist.{items_have_labels};
+ghost use Rattle.report_texts.specs.Fields.{left_in, has_label};
+ghost use Rattle.report_texts.specs.Playlist.{day_state, frames_of as frames_in, item_line, plan_end, plan_head, plan_text};
+ghost use Rattle.report_texts.specs.Playlist.{items_have_labels};
 
 use crate::columns::{push_digits, push_left, push_number};
-use crate::fault::RowFault;
 use crate::fields::{push_clip_reel, push_label};
 use crate::lent::push_lent_reel;
-use crate::{LineBuffer, WriteFault, push, push_decimal, send};
 use channel_plan::PlanRow;
 use playlist_core::{DayPlan, DayState, EditKind, Item, Source, label_at};
+use report_texts::{LineBuffer, RowFault, WriteFault, push, push_decimal, send};
 use std::io::Write;
 
 // Whether a day is open or sealed.

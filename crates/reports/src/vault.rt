@@ -3,13 +3,13 @@ ghost use Rattle.std.specs.Prelude.{◌≡◌, ◌≤◌, ◌+◌, ◌++◌, len
 ghost use Rattle.std.specs.List.{flat_map};
 ghost use Rattle.std.specs.Io.KnownBytes.{Appends};
 ghost use Rattle.vault_core.specs.Rules.{slots_of};
-ghost use Rattle.reports.specs.Output.{AppendsPart};
-ghost use Rattle.reports.specs.Fields.{left_in};
-ghost use Rattle.reports.specs.Vault.{slot_field, tape_line, vault_end, vault_text};
+ghost use Rattle.report_texts.specs.Output.{AppendsPart};
+ghost use Rattle.report_texts.specs.Fields.{left_in};
+ghost use Rattle.report_texts.specs.Vault.{slot_field, tape_line, vault_end, vault_text};
 
 use crate::columns::{push_left, push_number};
-use crate::{LineBuffer, WriteFault, push, push_decimal, send};
 use channel_plan::PlanRow;
+use report_texts::{LineBuffer, WriteFault, push, push_decimal, send};
 use std::io::Write;
 use vault_core::{Barcode, Tape};
 

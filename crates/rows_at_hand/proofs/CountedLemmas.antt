@@ -16,9 +16,9 @@ use Rattle.vault_core.specs.Questions.{replaced}
 use Rattle.playlist_core.specs.Day.{Day}
 use Rattle.playlist_core.specs.Difference.{ChangedDay}
 use Rattle.asrun_match.specs.declared.day.DayAsRun.{DayAsRun}
-use Rattle.reports.specs.declared.days.DayCounts.{DayCounts}
-use Rattle.reports.specs.Days.{batches_in as batches_aired, batches_of, counts_line, day_counts, day_line, days_end}
-use Rattle.reports.specs.Days.{days_text}
+use Rattle.report_texts.specs.declared.counts.DayCounts.{DayCounts}
+use Rattle.report_texts.specs.Days.{batches_in as batches_aired, batches_of, counts_line, day_counts, day_line, days_end}
+use Rattle.report_texts.specs.Days.{days_text}
 use Rattle.channel_view_model.specs.declared.table.Table.TheVariants.{Days}
 use Rattle.channel_view_model.specs.declared.command.Change.{Change}
 use Rattle.channel_view_model.specs.declared.command.Change.TheVariants.{Nothing, Vault as OnVault, Day as OnDay}

@@ -5,7 +5,7 @@ use Rattle.std.specs.List.{position_or_len}
 use Rattle.std.proofs.lemmas.Bool.Decides.{nat_tests}
 use Rattle.std.proofs.Math.ListN.{set}
 use Rattle.vault_core.specs.Questions.{replaced}
-use Rattle.reports.specs.declared.days.DayCounts.{DayCounts}
+use Rattle.report_texts.specs.declared.counts.DayCounts.{DayCounts}
 use Rattle.rows_at_hand.specs.Counted.{is_told_at}
 
 -- what is told of a day stands there, or belongs there

@@ -26,10 +26,10 @@ use Rattle.playlist_core.specs.declared.source.Source.{Source}
 use Rattle.playlist_core.specs.declared.source.Source.TheVariants.{Black, Bars, Own as OwnClip, Lent as LentClip}
 use Rattle.playlist_core.specs.declared.source.SourcesFound.{SourcesFound}
 use Rattle.playlist_core.specs.Source.{found, seen_of, of_clip, of_grant}
-use Rattle.reports.specs.Vault.{vault_text}
-use Rattle.reports.specs.Clips.{clip_text}
-use Rattle.reports.specs.Offers.{offer_text}
-use Rattle.reports.specs.Lent.{lent_text}
+use Rattle.report_texts.specs.Vault.{vault_text}
+use Rattle.report_texts.specs.Clips.{clip_text}
+use Rattle.report_texts.specs.Offers.{offer_text}
+use Rattle.report_texts.specs.Lent.{lent_text}
 use Rattle.channel_view_model.specs.declared.command.Command.{Command}
 use Rattle.channel_view_model.specs.declared.command.Command.TheVariants as commands
 use Rattle.channel_view_model.specs.declared.command.Change.{Change}

@@ -2,8 +2,8 @@
 use Rattle.std.specs.Prelude.{◌≡◌, ◌⊎◌, ℕ, ◌+◌, ◌<◌, ◌≤◌, List, [], ◌∷◌, ◌++◌, Bool, true, false, ◌==◌, nat_le, Option, Some, None}
 use Rattle.std.specs.Prelude.{if◌then◌else◌, find, is_some, length, map}
 use Rattle.std.specs.List.{All, flat_map, sum_by}
-use Rattle.reports.specs.declared.days.DayCounts.{DayCounts}
-use Rattle.reports.specs.Days.{counts_line, days_end}
+use Rattle.report_texts.specs.declared.counts.DayCounts.{DayCounts}
+use Rattle.report_texts.specs.Days.{counts_line, days_end}
 use Rattle.channel_view_model.specs.Tables.{rows_of}
 use Rattle.channel_view_model.specs.Centre.{Centre, plan_of}
 use Rattle.channel_view_model.specs.Rules.{KeepsRules}

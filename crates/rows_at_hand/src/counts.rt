@@ -5,8 +5,8 @@ ghost use Rattle.std.specs.List.{HoldsAt, flat_map, position_or_len};
 ghost use Rattle.std.specs.Option.{option_map};
 ghost use Rattle.std.specs.Io.KnownBytes.{Appends};
 ghost use Rattle.vault_core.specs.Questions.{replaced};
-ghost use Rattle.reports.specs.Output.{AppendsPart};
-ghost use Rattle.reports.specs.Days.{counts_line};
+ghost use Rattle.report_texts.specs.Output.{AppendsPart};
+ghost use Rattle.report_texts.specs.Days.{counts_line};
 ghost use Rattle.channel_view_model.specs.Centre.{Centre, IsChangeOf, changed};
 ghost use Rattle.rows_at_hand.specs.Counted.{AreCounted, IsCounted, Learns, batches_told, counts_text, days_counted};
 ghost use Rattle.rows_at_hand.specs.Counted.{is_channel, is_told_at, left_beside, most_counted, with_batches};
@@ -14,7 +14,8 @@ ghost use Rattle.rows_at_hand.specs.Counted.{is_channel, is_told_at, left_beside
 use asrun_match::DayAsRun;
 use channel_view_model::Change;
 use playlist_core::DayChange;
-use reports::{DayCounts, WriteFault, counts_of, write_day, write_days_end};
+use report_texts::{DayCounts, WriteFault};
+use reports::{counts_of, write_day, write_days_end};
 use std::alloc::{AllocError, Global};
 use std::io::Write;
 

@@ -3,7 +3,7 @@ ghost use Rattle.std.specs.Prelude.{◌≡◌, ◌==◌, IfOk, IfSome, OnOk, OnE
 ghost use Rattle.std.specs.Option.{option_map};
 ghost use Rattle.std.specs.List.Sorted.{IsNonDecreasingBy};
 ghost use Rattle.std.specs.Io.KnownBytes.{Appends};
-ghost use Rattle.reports.specs.Output.{AppendsPart};
+ghost use Rattle.report_texts.specs.Output.{AppendsPart};
 ghost use Rattle.channel_view_model.specs.declared.command.Change.TheVariants as Change;
 ghost use Rattle.channel_view_model.specs.declared.command.VaultChange.{VaultChange};
 ghost use Rattle.vault_core.specs.declared.command.Put.{Put};
@@ -11,7 +11,7 @@ ghost use Rattle.channel_view_model.specs.Tables.{is_in_order};
 ghost use Rattle.channel_view_model.specs.TableText.{text_at};
 ghost use Rattle.channel_view_model.specs.Centre.{Centre, IsChangeOf, IsInOrder, changed, view_of};
 ghost use Rattle.channel_view_model.specs.Need.{IsFetched, of_own};
-ghost use Rattle.reports.specs.Lent.{lent_text};
+ghost use Rattle.report_texts.specs.Lent.{lent_text};
 ghost use Rattle.rows_at_hand.specs.Vaults.{AreVaults, HasChannel, is_at_hand, lent_in, vault_at, vault_clips};
 ghost use Rattle.rows_at_hand.specs.Vaults.{vault_of, vaults_in, walks_far_in, with_sources};
 
@@ -23,7 +23,8 @@ use channel_view_model::{
 use channel_view_rules::{OfChannel, channel_rows, channel_start, grants_to, without_channels};
 use grant_core::Grant;
 use playlist_core::{Source, SourcesFound};
-use reports::{RowFault, write_lent};
+use report_texts::RowFault;
+use reports::write_lent;
 use std::alloc::Global;
 use std::io::Write;
 use timecode::Unavailable;

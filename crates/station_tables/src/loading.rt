@@ -16,7 +16,7 @@ ghost use Rattle.station_tables_reading.specs.Vaults.{AreVaultsRead, bytes_of};
 use crate::view_testing::read_tested_view;
 use channel_plan::PlanRow;
 use channel_view_model::{CentreRows, Need, Part, View};
-use reports::DayCounts;
+use report_texts::DayCounts;
 use sqlite::{Alter, Connection};
 use station_tables_reading::{read_day_counts, read_part, read_vaults};
 use std::alloc::Global;

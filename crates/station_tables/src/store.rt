@@ -17,7 +17,7 @@ use channel_plan::{Code, PlanRow, Refusal, is_plan, plan_row};
 use channel_view_model::{
     CentreRows, Change, CountsDays, Need, Part, RowStore, Table, TableFault, View,
 };
-use reports::DayCounts;
+use report_texts::DayCounts;
 use sqlite::{Alter, Connection};
 use station_tables_opening::open_centre;
 use station_tables_reading::write_table;

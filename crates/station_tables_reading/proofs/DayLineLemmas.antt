@@ -14,8 +14,8 @@ use Rattle.channel_plan.specs.declared.plan.PlanRow.{PlanRow}
 use Rattle.playlist_core.specs.declared.item.Item.{Item}
 use Rattle.playlist_core.specs.Day.{Day, KeepsDayRules}
 use Rattle.asrun_match.specs.declared.day.DayAsRun.{DayAsRun}
-use Rattle.reports.specs.Days.{batches_in, batches_of, counts_line, day_counts, day_line}
-use Rattle.reports.specs.Playlist.{frames_of}
+use Rattle.report_texts.specs.Days.{batches_in, batches_of, counts_line, day_counts, day_line}
+use Rattle.report_texts.specs.Playlist.{frames_of}
 use Rattle.channel_view_model.specs.Airings.{airing_or, airing_at}
 use Rattle.channel_view_model.specs.Rules.{numbers_rise}
 use Rattle.channel_view_model.specs.Tables.{of_channel, rows_of}

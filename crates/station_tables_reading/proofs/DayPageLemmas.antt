@@ -6,7 +6,7 @@ use Rattle.sqlite_trees.specs.declared.store.Store.{Ghosts}
 use Rattle.sqlite.specs.declared.transaction.Transaction.{Transaction}
 use Rattle.sqlite.specs.Effect.{Database}
 use Rattle.channel_plan.specs.declared.plan.PlanRow.{PlanRow}
-use Rattle.reports.specs.declared.days.DayCounts.{DayCounts}
+use Rattle.report_texts.specs.declared.counts.DayCounts.{DayCounts}
 use Rattle.channel_view_model.specs.Centre.{plan_of, seen_by, view_at}
 use Rattle.channel_view_model.specs.Seen.{sources_seen}
 use Rattle.channel_view_model.specs.Tables.{rows_of}

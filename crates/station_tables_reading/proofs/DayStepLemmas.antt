@@ -5,7 +5,7 @@ use Rattle.std.proofs.Math.Seq.{take-suc}
 use Rattle.std.proofs.lemmas.List.{map-append}
 use Rattle.sqlite_trees.specs.declared.store.Store.{Ghosts}
 use Rattle.sqlite.specs.declared.transaction.Transaction.{Transaction}
-use Rattle.reports.specs.declared.days.DayCounts.{DayCounts}
+use Rattle.report_texts.specs.declared.counts.DayCounts.{DayCounts}
 use Rattle.station_tables_records.specs.declared.day_rows.DayRow.{DayRow}
 use Rattle.station_tables_records.specs.Inside.{inside, Looks}
 use Rattle.station_tables_statements.specs.Calls.{WhileCleanCentre}

@@ -25,8 +25,8 @@ use Rattle.channel_view_model.specs.Tables.{of_channel, rows_of}
 use Rattle.channel_view_model.specs.TableText.{table_text, text_seen}
 use Rattle.channel_view_model.specs.Centre.{plan_of, view_at}
 use Rattle.station_tables_records.specs.Inside.{Looks}
-use Rattle.reports.specs.Output.{AppendsPart}
-use Rattle.reports.proofs.PartLemmas.{nothing_yet, whole_behind, part_behind}
+use Rattle.report_texts.specs.Output.{AppendsPart}
+use Rattle.report_texts.proofs.PartLemmas.{nothing_yet, whole_behind, part_behind}
 use Rattle.station_tables_statements.specs.Numbered.{page_of}
 use Rattle.station_tables_statements.specs.Rows.{HoldsSet, rows_of_tables}
 use Rattle.station_tables_reading.proofs.ThenLemmas.{rows_then}

@@ -7,8 +7,8 @@ use Rattle.station_tables_records.specs.declared.day_rows.ItemRow.{ItemRow}
 use Rattle.station_tables_records.specs.MadeDays.{DaySet, is_of_day, state_of}
 use Rattle.station_tables_records.specs.MadeAirings.{AiredSet, is_batch_of}
 use Rattle.station_tables_records.specs.TablePairs.{aired_rows_in, day_rows_in}
-use Rattle.reports.specs.declared.days.DayCounts.{DayCounts}
-use Rattle.reports.specs.Playlist.{frames_of}
+use Rattle.report_texts.specs.declared.counts.DayCounts.{DayCounts}
+use Rattle.report_texts.specs.Playlist.{frames_of}
 
 -- of the day of a row: the rows of its items and of its batches are counted
 abbrev pub counts_of_rows : DayRow → List (ℕ × ItemRow) → List (ℕ × BatchRow) → DayCounts

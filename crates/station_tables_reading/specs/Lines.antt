@@ -7,12 +7,12 @@ use Rattle.sqlite.specs.declared.transaction.Transaction.{Transaction}
 use Rattle.channel_plan.specs.declared.plan.PlanRow.{PlanRow}
 use Rattle.vault_core.specs.declared.tape.Tape.{Tape}
 use Rattle.vault_core.specs.Rules.{slots_of}
-use Rattle.reports.specs.Output.{AppendsPart}
-use Rattle.reports.specs.Vault.{tape_line, vault_end}
-use Rattle.reports.specs.Clips.{clip_line, clips_end}
-use Rattle.reports.specs.Offers.{offer_line, offers_end}
-use Rattle.reports.specs.Lent.{lent_text}
-use Rattle.reports.specs.Days.{days_text}
+use Rattle.report_texts.specs.Output.{AppendsPart}
+use Rattle.report_texts.specs.Vault.{tape_line, vault_end}
+use Rattle.report_texts.specs.Clips.{clip_line, clips_end}
+use Rattle.report_texts.specs.Offers.{offer_line, offers_end}
+use Rattle.report_texts.specs.Lent.{lent_text}
+use Rattle.report_texts.specs.Days.{days_text}
 use Rattle.channel_view_model.specs.declared.table.Table.{Table}
 use Rattle.channel_view_model.specs.declared.table.Table.TheVariants.{Vault, Clips, Offers, Lent, Days}
 use Rattle.channel_view_model.specs.declared.view.View.{View}

@@ -3,7 +3,7 @@
 //! The numbers of days have holes, so a page is of numbers and not of rows: of a thousand of them, whichever are there.
 ghost use Rattle.std.specs.Prelude.{◌≡◌, filter, map, IfOk};
 ghost use Rattle.std.specs.Option.{option_map};
-ghost use Rattle.reports.specs.Playlist.{frames_of};
+ghost use Rattle.report_texts.specs.Playlist.{frames_of};
 ghost use Rattle.channel_view_model.specs.Centre.{plan_of, view_of};
 ghost use Rattle.station_tables_records.specs.MadeDays.{is_day_in};
 ghost use Rattle.station_tables_records.specs.TablePairs.{day_rows_in};
@@ -16,7 +16,7 @@ ghost use Rattle.station_tables_reading.specs.Lines.{WhileCleanSeen};
 
 use crate::open_testing::test_open;
 use channel_plan::PlanRow;
-use reports::DayCounts;
+use report_texts::DayCounts;
 use sqlite::{Alter, Transaction};
 use station_tables_records::{BatchRow, DayRow, ItemRow, state_of};
 use station_tables_statements::{load_batch_rows, load_day_rows, load_item_rows};

@@ -2,15 +2,16 @@
 ghost use Rattle.std.specs.Prelude.{OnOk, OnErr};
 ghost use Rattle.std.specs.List.{flat_map};
 ghost use Rattle.std.specs.Io.KnownBytes.{Appends};
-ghost use Rattle.reports.specs.Output.{AppendsPart};
-ghost use Rattle.reports.specs.Days.{counts_line, days_text};
+ghost use Rattle.report_texts.specs.Output.{AppendsPart};
+ghost use Rattle.report_texts.specs.Days.{counts_line, days_text};
 ghost use Rattle.station_tables_records.specs.Inside.{Looks};
 ghost use Rattle.station_tables_reading.specs.Lines.{WhileCleanSeen, Written};
 
 use crate::day_counting::count_days;
 use channel_plan::PlanRow;
 use channel_view_model::TableFault;
-use reports::{DayCounts, WriteFault, write_day, write_days_end};
+use report_texts::{DayCounts, WriteFault};
+use reports::{write_day, write_days_end};
 use sqlite::{Alter, Transaction};
 use std::alloc::Global;
 use std::io::Write;

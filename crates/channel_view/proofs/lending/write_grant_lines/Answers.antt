@@ -4,9 +4,9 @@ use Rattle.std.specs.List.{flat_map}
 use Rattle.std.specs.Io.KnownBytes.{Appends}
 use Rattle.std.proofs.lemmas.List.{take_all}
 use Rattle.std.proofs.lemmas.Grind.{common_steps}
-use Rattle.reports.specs.Output.{AppendsPart}
-use Rattle.reports.proofs.PartLemmas.{part_behind}
-use Rattle.reports.proofs.LineLemmas.{on_err, lines_at, line_appended}
+use Rattle.report_texts.specs.Output.{AppendsPart}
+use Rattle.report_texts.proofs.PartLemmas.{part_behind}
+use Rattle.report_texts.proofs.LineLemmas.{on_err, lines_at, line_appended}
 use Rattle.channel_view_model.specs.Seen.{grant_lines}
 use Rattle.channel_view_model.proofs.LentLemmas.{lines_of_grants}
 use Rattle.channel_view.proofs.LabelLemmas.{one_unlabelled}

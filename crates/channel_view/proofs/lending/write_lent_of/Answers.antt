@@ -3,10 +3,10 @@ use Rattle.std.proofs.Common.{[], ◌++◌, ◌∙◌, ap, subst}
 use Rattle.std.specs.List.{flat_map}
 use Rattle.std.specs.Io.KnownBytes.{Appends}
 use Rattle.std.proofs.lemmas.List.{append-nil}
-use Rattle.reports.specs.Output.{AppendsPart}
-use Rattle.reports.proofs.PartLemmas.{nothing_yet, part_behind, whole_behind}
-use Rattle.reports.specs.Lent.{lent_line, lent_end}
-use Rattle.reports.proofs.LineLemmas.{on_err}
+use Rattle.report_texts.specs.Output.{AppendsPart}
+use Rattle.report_texts.proofs.PartLemmas.{nothing_yet, part_behind, whole_behind}
+use Rattle.report_texts.specs.Lent.{lent_line, lent_end}
+use Rattle.report_texts.proofs.LineLemmas.{on_err}
 use Rattle.channel_view_model.specs.Seen.{grants_to}
 use Rattle.channel_view_model.proofs.LentLemmas.{grants_counted}
 use Rattle.channel_view.proofs.lending.write_lent_of.Goals as goal

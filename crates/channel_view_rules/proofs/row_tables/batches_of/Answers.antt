@@ -3,7 +3,7 @@ use Rattle.std.proofs.Common.{◌≡◌, ℕ, List, [], ◌∷◌, true, false, 
 use Rattle.std.specs.Prelude.{◌==◌, find, Some, if◌then◌else◌}
 use Rattle.std.specs.Option.{option_map}
 use Rattle.asrun_match.specs.declared.day.DayAsRun.{DayAsRun}
-use Rattle.reports.specs.Days.{batches_in}
+use Rattle.report_texts.specs.Days.{batches_in}
 use Rattle.channel_view_model.specs.Tables.{rows_alone}
 use Rattle.channel_view_rules.proofs.row_tables.batches_of.Goals as goal
 

@@ -6,12 +6,12 @@ use Rattle.std.proofs.lemmas.List.{take_all}
 use Rattle.std.proofs.lemmas.List.Folds.{list_all-map, list_all_at}
 use Rattle.std.proofs.lemmas.Grind.{common_steps}
 use Rattle.vault_core.specs.declared.clip.Clip.{Clip}
-use Rattle.reports.specs.Output.{AppendsPart}
-use Rattle.reports.proofs.PartLemmas.{part_behind}
-use Rattle.reports.specs.Fields.{has_label}
-use Rattle.reports.specs.Clips.{clip_line, clips_have_labels}
+use Rattle.report_texts.specs.Output.{AppendsPart}
+use Rattle.report_texts.proofs.PartLemmas.{part_behind}
+use Rattle.report_texts.specs.Fields.{has_label}
+use Rattle.report_texts.specs.Clips.{clip_line, clips_have_labels}
 use Rattle.channel_view_model.specs.Tables.{rows_alone}
-use Rattle.reports.proofs.LineLemmas.{on_err, lines_at, line_appended}
+use Rattle.report_texts.proofs.LineLemmas.{on_err, lines_at, line_appended}
 use Rattle.channel_view_model.proofs.TableLemmas.{lines_of_rows}
 use Rattle.channel_view_rules.proofs.row_tables.write_clip_lines.Goals as goal
 

@@ -2,7 +2,7 @@
 use Rattle.std.proofs.Common.{take}
 use Rattle.std.specs.List.{flat_map}
 use Rattle.std.specs.Io.KnownBytes.{Appends}
-use Rattle.reports.specs.Clips.{clip_line}
+use Rattle.report_texts.specs.Clips.{clip_line}
 use Rattle.channel_view_rules.proofs.row_tables.write_clip_lines.Given as goal
 
 -- the lines that were written so far

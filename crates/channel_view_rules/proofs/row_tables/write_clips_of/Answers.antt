@@ -2,9 +2,9 @@
 use Rattle.std.proofs.Common.{[], ◌++◌, length, sym, ◌∙◌, ap, subst}
 use Rattle.std.specs.List.{flat_map}
 use Rattle.std.proofs.lemmas.List.{append-nil, length-map}
-use Rattle.reports.specs.Output.{AppendsPart}
-use Rattle.reports.proofs.PartLemmas.{nothing_yet, on_err, part_behind}
-use Rattle.reports.specs.Clips.{clip_line, clips_end}
+use Rattle.report_texts.specs.Output.{AppendsPart}
+use Rattle.report_texts.proofs.PartLemmas.{nothing_yet, on_err, part_behind}
+use Rattle.report_texts.specs.Clips.{clip_line, clips_end}
 use Rattle.channel_view_model.specs.Tables.{rows_alone}
 use Rattle.channel_view_rules.proofs.row_tables.write_clips_of.Goals as goal
 

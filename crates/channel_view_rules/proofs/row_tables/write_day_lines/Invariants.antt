@@ -2,7 +2,7 @@
 use Rattle.std.proofs.Common.{take}
 use Rattle.std.specs.List.{flat_map}
 use Rattle.std.specs.Io.KnownBytes.{Appends}
-use Rattle.reports.specs.Days.{day_line}
+use Rattle.report_texts.specs.Days.{day_line}
 use Rattle.channel_view_model.specs.Tables.{rows_alone}
 use Rattle.channel_view_rules.proofs.row_tables.write_day_lines.Given as goal
 

@@ -4,10 +4,10 @@ use Rattle.std.specs.List.{flat_map}
 use Rattle.std.specs.Io.KnownBytes.{Appends}
 use Rattle.std.proofs.lemmas.List.{take_all}
 use Rattle.vault_core.specs.declared.offer.Offer.{Offer}
-use Rattle.reports.specs.Output.{AppendsPart}
-use Rattle.reports.proofs.PartLemmas.{part_behind}
-use Rattle.reports.specs.Offers.{offer_line}
-use Rattle.reports.proofs.LineLemmas.{on_err, lines_at}
+use Rattle.report_texts.specs.Output.{AppendsPart}
+use Rattle.report_texts.proofs.PartLemmas.{part_behind}
+use Rattle.report_texts.specs.Offers.{offer_line}
+use Rattle.report_texts.proofs.LineLemmas.{on_err, lines_at}
 use Rattle.channel_view_model.proofs.TableLemmas.{lines_of_rows}
 use Rattle.channel_view_rules.proofs.row_tables.write_offer_lines.Goals as goal
 

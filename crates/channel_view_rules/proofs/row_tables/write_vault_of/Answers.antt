@@ -3,10 +3,10 @@ use Rattle.std.proofs.Common.{[], ◌++◌, length, sym, ◌∙◌, ap, subst}
 use Rattle.std.specs.List.{flat_map}
 use Rattle.std.proofs.lemmas.List.{append-nil, length-map}
 use Rattle.vault_core.specs.Rules.{slots_of}
-use Rattle.reports.specs.Output.{AppendsPart}
-use Rattle.reports.proofs.PartLemmas.{nothing_yet, part_behind}
-use Rattle.reports.specs.Vault.{tape_line, vault_end}
-use Rattle.reports.proofs.LineLemmas.{on_err, map_err}
+use Rattle.report_texts.specs.Output.{AppendsPart}
+use Rattle.report_texts.proofs.PartLemmas.{nothing_yet, part_behind}
+use Rattle.report_texts.specs.Vault.{tape_line, vault_end}
+use Rattle.report_texts.proofs.LineLemmas.{on_err, map_err}
 use Rattle.channel_view_model.specs.Tables.{rows_alone}
 use Rattle.channel_view_rules.proofs.row_tables.write_vault_of.Goals as goal
 

@@ -2,7 +2,7 @@
 use Rattle.std.proofs.Common.{[], ◌∷◌, ◌++◌, ◌∙◌, subst}
 use Rattle.std.specs.Prelude.{OnOk, OnErr}
 use Rattle.std.specs.Io.KnownBytes.{Appends}
-use Rattle.reports.specs.Output.{AppendsPart}
+use Rattle.report_texts.specs.Output.{AppendsPart}
 use Rattle.playout_cli.proofs.serve.announce.Goals as goal
 
 pub returns-clause-ok : goal.returns-clause-ok

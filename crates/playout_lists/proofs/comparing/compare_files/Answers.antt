@@ -1,7 +1,7 @@
 -- `compare_files`: compares the lists in two files frame by frame.
 use Rattle.std.proofs.Common.{List, ℕ, rules, subst}
 use Rattle.std.specs.Io.KnownBytes.{Appends}
-use Rattle.reports.specs.Output.{AppendsPart}
+use Rattle.report_texts.specs.Output.{AppendsPart}
 use Rattle.std.proofs.lemmas.Result.{IfErr-weaker}
 use Rattle.playout_lists.specs.Comparing.{CompareHas}
 use Rattle.playout_lists.proofs.FileLemmas.{unwritten}

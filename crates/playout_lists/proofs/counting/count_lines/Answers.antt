@@ -1,6 +1,6 @@
 -- `count_lines`: reads all of the input as lines of labels and of frame numbers, and writes a line for each.
 use Rattle.std.proofs.Common.{◌≡◌, ◌∙◌, ℕ, List, ap, refl, subst}
-use Rattle.reports.specs.Output.{AppendsPart}
+use Rattle.report_texts.specs.Output.{AppendsPart}
 use Rattle.timecode_lines.specs.Lines.{answered, first_fault}
 use Rattle.playout_lists.proofs.counting.count_lines.Goals as goal
 

@@ -1,6 +1,6 @@
 -- The loops of `frames_with` (how many frames the runs of a status have).
 use Rattle.std.proofs.Common.{◌≡◌, ◌≤◌, ◌*◌, take}
-use Rattle.reports.specs.Asrun.{frames_with}
+use Rattle.report_texts.specs.Asrun.{frames_with}
 use Rattle.reports.proofs.asrun.frames_with.Given as goal
 
 -- the sum of those so far, each below 2 ^ 32

@@ -3,7 +3,7 @@ use Rattle.std.proofs.Common.{◌++◌, ◌∙◌, ap}
 use Rattle.playlist_core.specs.Day.{picture_in}
 use Rattle.asrun_match.specs.Aired.{aired_picture}
 use Rattle.asrun_match.specs.Status.{statuses_of}
-use Rattle.reports.specs.Asrun.{match_text}
+use Rattle.report_texts.specs.Asrun.{match_text}
 use Rattle.reports.proofs.MatchLemmas.{runs_those_made, table_of_statuses}
 use Rattle.reports.proofs.asrun.match_table.Goals as goal
 

@@ -1,10 +1,10 @@
 -- `write_runs`: writes the line of each run, in their order.
 use Rattle.std.proofs.Common.{sym, subst, arith, take}
 use Rattle.std.specs.List.{flat_map}
-use Rattle.reports.specs.Output.{AppendsPart}
-use Rattle.reports.proofs.PartLemmas.{part_behind}
-use Rattle.reports.specs.Asrun.{run_line}
-use Rattle.reports.proofs.LineLemmas.{on_err, lines_read, line_read}
+use Rattle.report_texts.specs.Output.{AppendsPart}
+use Rattle.report_texts.proofs.PartLemmas.{part_behind}
+use Rattle.report_texts.specs.Asrun.{run_line}
+use Rattle.report_texts.proofs.LineLemmas.{on_err, lines_read, line_read}
 use Rattle.reports.proofs.asrun.write_runs.Goals as goal
 
 pub returns-in_err-write_run-clause-err : goal.returns-in_err-write_run-clause-err

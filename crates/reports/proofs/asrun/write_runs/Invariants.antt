@@ -2,7 +2,7 @@
 use Rattle.std.proofs.Common.{take}
 use Rattle.std.specs.List.{flat_map}
 use Rattle.std.specs.Io.KnownBytes.{Appends}
-use Rattle.reports.specs.Asrun.{run_line}
+use Rattle.report_texts.specs.Asrun.{run_line}
 use Rattle.reports.proofs.asrun.write_runs.Given as goal
 
 -- the lines that were written so far

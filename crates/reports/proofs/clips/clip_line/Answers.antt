@@ -5,8 +5,8 @@ use Rattle.hex.specs.Hex.{encode_lower}
 use Rattle.timecode.specs.Label.{frame_text}
 use Rattle.umid.specs.BasicUmid.{basic_umid}
 use Rattle.vault_core.specs.Reel.{clip_reel}
-use Rattle.reports.specs.Fields.{number_in}
-use Rattle.reports.specs.Clips.{state_field}
+use Rattle.report_texts.specs.Fields.{number_in}
+use Rattle.report_texts.specs.Clips.{state_field}
 use Rattle.std.proofs.lemmas.List.{append_assoc}
 use Rattle.reports.proofs.clips.clip_line.Goals as goal
 

@@ -2,9 +2,9 @@
 use Rattle.std.proofs.Common.{[], ◌++◌, length, ap, subst}
 use Rattle.std.specs.List.{flat_map}
 use Rattle.std.proofs.lemmas.List.{append-nil}
-use Rattle.reports.specs.Output.{AppendsPart}
-use Rattle.reports.proofs.PartLemmas.{nothing_yet, on_err, part_behind}
-use Rattle.reports.specs.Clips.{clip_line, clips_end}
+use Rattle.report_texts.specs.Output.{AppendsPart}
+use Rattle.report_texts.proofs.PartLemmas.{nothing_yet, on_err, part_behind}
+use Rattle.report_texts.specs.Clips.{clip_line, clips_end}
 use Rattle.reports.proofs.clips.write_clips.Goals as goal
 
 pub returns-in_err-write_clip_lines-clause-err : goal.returns-in_err-write_clip_lines-clause-err

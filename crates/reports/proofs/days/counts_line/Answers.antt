@@ -2,8 +2,8 @@
 use Rattle.std.proofs.Common.{◌≡◌, List, ◌++◌, ℕ}
 use Rattle.std.specs.Prelude.{codes}
 use Rattle.std.proofs.lemmas.List.{append_assoc}
-use Rattle.reports.specs.Fields.{left_in, number_in}
-use Rattle.reports.specs.Playlist.{day_state}
+use Rattle.report_texts.specs.Fields.{left_in, number_in}
+use Rattle.report_texts.specs.Playlist.{day_state}
 use Rattle.reports.proofs.days.counts_line.Goals as goal
 
 -- five fields, with a blank between, and the line's end

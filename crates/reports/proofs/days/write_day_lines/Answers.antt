@@ -2,10 +2,10 @@
 use Rattle.std.proofs.Common.{sym, ap, ◌∙◌, subst, arith, take}
 use Rattle.std.specs.List.{flat_map}
 use Rattle.std.specs.Io.KnownBytes.{Appends}
-use Rattle.reports.specs.Output.{AppendsPart}
-use Rattle.reports.proofs.PartLemmas.{part_behind}
-use Rattle.reports.specs.Days.{batches_of, counts_line, day_counts, day_line}
-use Rattle.reports.proofs.LineLemmas.{on_err, lines_at, line_appended}
+use Rattle.report_texts.specs.Output.{AppendsPart}
+use Rattle.report_texts.proofs.PartLemmas.{part_behind}
+use Rattle.report_texts.specs.Days.{batches_of, counts_line, day_counts, day_line}
+use Rattle.report_texts.proofs.LineLemmas.{on_err, lines_at, line_appended}
 use Rattle.reports.proofs.days.write_day_lines.Goals as goal
 
 pub returns-in_err-write_day-clause-err : goal.returns-in_err-write_day-clause-err

@@ -6,8 +6,8 @@ use Rattle.timecode.specs.Rate.{rate_text}
 use Rattle.timecode.specs.Label.{frame_text}
 use Rattle.umid.specs.BasicUmid.{basic_umid}
 use Rattle.grant_core.specs.Grant.{lent_reel}
-use Rattle.reports.specs.Fields.{left_in, number_in}
-use Rattle.reports.specs.Offers.{offer_state, window_field}
+use Rattle.report_texts.specs.Fields.{left_in, number_in}
+use Rattle.report_texts.specs.Offers.{offer_state, window_field}
 use Rattle.std.proofs.lemmas.List.{append_assoc}
 use Rattle.reports.proofs.lent.lent_line.Goals as goal
 

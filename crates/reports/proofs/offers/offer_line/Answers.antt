@@ -4,7 +4,7 @@ use Rattle.std.specs.Prelude.{codes}
 use Rattle.std.proofs.lemmas.List.{append_assoc}
 use Rattle.vault_core.specs.Reel.{clip_reel}
 use Rattle.timecode.specs.Decimal.{in_digits}
-use Rattle.reports.specs.Offers.{offer_state, window_field}
+use Rattle.report_texts.specs.Offers.{offer_state, window_field}
 use Rattle.reports.proofs.offers.offer_line.Goals as goal
 
 -- four fields, with a blank between, the window, and the line's end

@@ -1,10 +1,10 @@
 -- `write_offer_lines`: writes the lines of these offers, in their order.
 use Rattle.std.proofs.Common.{sym, subst, arith, take}
 use Rattle.std.specs.List.{flat_map}
-use Rattle.reports.specs.Output.{AppendsPart}
-use Rattle.reports.proofs.PartLemmas.{part_behind}
-use Rattle.reports.specs.Offers.{offer_line}
-use Rattle.reports.proofs.LineLemmas.{on_err, lines_at, line_appended}
+use Rattle.report_texts.specs.Output.{AppendsPart}
+use Rattle.report_texts.proofs.PartLemmas.{part_behind}
+use Rattle.report_texts.specs.Offers.{offer_line}
+use Rattle.report_texts.proofs.LineLemmas.{on_err, lines_at, line_appended}
 use Rattle.reports.proofs.offers.write_offer_lines.Goals as goal
 
 pub returns-in_err-write_offer-clause-err : goal.returns-in_err-write_offer-clause-err

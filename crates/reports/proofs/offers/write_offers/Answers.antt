@@ -2,10 +2,10 @@
 use Rattle.std.proofs.Common.{[], ◌++◌, length, ap, subst}
 use Rattle.std.specs.List.{flat_map}
 use Rattle.std.proofs.lemmas.List.{append-nil}
-use Rattle.reports.specs.Output.{AppendsPart}
-use Rattle.reports.proofs.PartLemmas.{nothing_yet, part_behind}
-use Rattle.reports.specs.Offers.{offer_line, offers_end}
-use Rattle.reports.proofs.LineLemmas.{on_err, map_err}
+use Rattle.report_texts.specs.Output.{AppendsPart}
+use Rattle.report_texts.proofs.PartLemmas.{nothing_yet, part_behind}
+use Rattle.report_texts.specs.Offers.{offer_line, offers_end}
+use Rattle.report_texts.proofs.LineLemmas.{on_err, map_err}
 use Rattle.reports.proofs.offers.write_offers.Goals as goal
 
 pub returns-in_err-write_offer_lines-clause-err : goal.returns-in_err-write_offer_lines-clause-err

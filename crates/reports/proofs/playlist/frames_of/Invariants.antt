@@ -1,6 +1,6 @@
 -- The loops of `frames_of` (how many frames the items of a day have).
 use Rattle.std.proofs.Common.{◌≡◌, ◌≤◌, ◌*◌, take}
-use Rattle.reports.specs.Playlist.{frames_of}
+use Rattle.report_texts.specs.Playlist.{frames_of}
 use Rattle.reports.proofs.playlist.frames_of.Given as goal
 
 -- the sum of those so far, each below 2 ^ 32

@@ -6,7 +6,7 @@ use Rattle.playlist_core.specs.Day.{label_at}
 use Rattle.playlist_core.specs.Item.{kind_text}
 use Rattle.playlist_core.specs.Source.{source_reel}
 use Rattle.timecode.specs.Decimal.{in_digits}
-use Rattle.reports.specs.Fields.{left_in, number_in}
+use Rattle.report_texts.specs.Fields.{left_in, number_in}
 use Rattle.std.proofs.lemmas.List.{append_assoc}
 use Rattle.reports.proofs.playlist.item_line.Goals as goal
 

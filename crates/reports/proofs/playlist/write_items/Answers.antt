@@ -1,10 +1,10 @@
 -- `write_items`: writes the line of each item, in their order.
 use Rattle.std.proofs.Common.{sym, subst, arith, take}
 use Rattle.std.specs.List.{flat_map}
-use Rattle.reports.specs.Output.{AppendsPart}
-use Rattle.reports.proofs.PartLemmas.{part_behind}
-use Rattle.reports.specs.Playlist.{item_line}
-use Rattle.reports.proofs.LineLemmas.{on_err, lines_at, line_appended}
+use Rattle.report_texts.specs.Output.{AppendsPart}
+use Rattle.report_texts.proofs.PartLemmas.{part_behind}
+use Rattle.report_texts.specs.Playlist.{item_line}
+use Rattle.report_texts.proofs.LineLemmas.{on_err, lines_at, line_appended}
 use Rattle.reports.proofs.playlist.write_items.Goals as goal
 
 pub returns-in_err-write_item-clause-err : goal.returns-in_err-write_item-clause-err

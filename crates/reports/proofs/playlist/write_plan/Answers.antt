@@ -3,9 +3,9 @@ use Rattle.std.proofs.Common.{[], ◌++◌, ◌∙◌, ap, subst}
 use Rattle.std.specs.List.{flat_map}
 use Rattle.std.specs.Io.KnownBytes.{Appends}
 use Rattle.std.proofs.lemmas.List.{append_assoc, append-nil}
-use Rattle.reports.specs.Output.{AppendsPart}
-use Rattle.reports.proofs.PartLemmas.{nothing_yet, on_err, part_behind, whole_behind}
-use Rattle.reports.specs.Playlist.{item_line, plan_end, plan_head}
+use Rattle.report_texts.specs.Output.{AppendsPart}
+use Rattle.report_texts.proofs.PartLemmas.{nothing_yet, on_err, part_behind, whole_behind}
+use Rattle.report_texts.specs.Playlist.{item_line, plan_end, plan_head}
 use Rattle.reports.proofs.playlist.write_plan.Goals as goal
 
 pub returns-in_err-write_plan_head-clause-err : goal.returns-in_err-write_plan_head-clause-err

@@ -1,10 +1,10 @@
 -- `write_tapes`: writes the line of each tape, in their order.
 use Rattle.std.proofs.Common.{sym, subst, arith, take}
 use Rattle.std.specs.List.{flat_map}
-use Rattle.reports.specs.Output.{AppendsPart}
-use Rattle.reports.proofs.PartLemmas.{part_behind}
-use Rattle.reports.specs.Vault.{tape_line}
-use Rattle.reports.proofs.LineLemmas.{on_err, lines_at}
+use Rattle.report_texts.specs.Output.{AppendsPart}
+use Rattle.report_texts.proofs.PartLemmas.{part_behind}
+use Rattle.report_texts.specs.Vault.{tape_line}
+use Rattle.report_texts.proofs.LineLemmas.{on_err, lines_at}
 use Rattle.reports.proofs.vault.write_tapes.Goals as goal
 
 pub returns-in_err-write_tape-clause-err : goal.returns-in_err-write_tape-clause-err

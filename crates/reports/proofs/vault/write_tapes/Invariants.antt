@@ -2,7 +2,7 @@
 use Rattle.std.proofs.Common.{take}
 use Rattle.std.specs.List.{flat_map}
 use Rattle.std.specs.Io.KnownBytes.{Appends}
-use Rattle.reports.specs.Vault.{tape_line}
+use Rattle.report_texts.specs.Vault.{tape_line}
 use Rattle.reports.proofs.vault.write_tapes.Given as goal
 
 -- the lines that were written so far

@@ -2,10 +2,10 @@
 use Rattle.std.proofs.Common.{[], ◌++◌, length, ◌∙◌, ap, subst}
 use Rattle.std.specs.List.{flat_map}
 use Rattle.std.proofs.lemmas.List.{append-nil}
-use Rattle.reports.specs.Output.{AppendsPart}
-use Rattle.reports.proofs.PartLemmas.{nothing_yet, part_behind}
-use Rattle.reports.specs.Vault.{tape_line, vault_end}
-use Rattle.reports.proofs.LineLemmas.{on_err, map_err}
+use Rattle.report_texts.specs.Output.{AppendsPart}
+use Rattle.report_texts.proofs.PartLemmas.{nothing_yet, part_behind}
+use Rattle.report_texts.specs.Vault.{tape_line, vault_end}
+use Rattle.report_texts.proofs.LineLemmas.{on_err, map_err}
 use Rattle.reports.proofs.vault.write_vault.Goals as goal
 
 pub returns-in_err-write_tapes-clause-err : goal.returns-in_err-write_tapes-clause-err

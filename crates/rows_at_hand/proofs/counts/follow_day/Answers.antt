@@ -3,7 +3,7 @@ use Rattle.std.proofs.Common.{◌≡◌, ◌∙◌, ap, ap₂, subst, sym, arith
 use Rattle.std.proofs.lemmas.Bool.Decides.{nat_tests}
 use Rattle.std.proofs.lemmas.List.Elements.{All-contains}
 use Rattle.vault_core.specs.Questions.{replaced}
-use Rattle.reports.specs.Days.{day_counts}
+use Rattle.report_texts.specs.Days.{day_counts}
 use Rattle.channel_view_model.specs.declared.command.Change.TheVariants.{Day as OnDay}
 use Rattle.channel_view_model.specs.Centre.{changed}
 use Rattle.rows_at_hand.specs.Counted.{AreCounted, IsCounted, batches_told}

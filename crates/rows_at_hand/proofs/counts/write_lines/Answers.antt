@@ -1,10 +1,10 @@
 -- `write_lines`: the line of each of these days.
 use Rattle.std.proofs.Common.{sym, subst, arith, take, drop, suc, get_or}
 use Rattle.std.specs.List.{flat_map}
-use Rattle.reports.specs.Output.{AppendsPart}
-use Rattle.reports.specs.Days.{counts_line}
-use Rattle.reports.proofs.PartLemmas.{part_behind}
-use Rattle.reports.proofs.LineLemmas.{on_err, line_read, lines_read}
+use Rattle.report_texts.specs.Output.{AppendsPart}
+use Rattle.report_texts.specs.Days.{counts_line}
+use Rattle.report_texts.proofs.PartLemmas.{part_behind}
+use Rattle.report_texts.proofs.LineLemmas.{on_err, line_read, lines_read}
 use Rattle.rows_at_hand.proofs.counts.write_lines.Goals as goal
 
 pub returns-in_err-write_day-clause-err : goal.returns-in_err-write_day-clause-err

@@ -5,7 +5,7 @@ use Rattle.std.proofs.lemmas.List.{take_all}
 use Rattle.std.proofs.lemmas.List.Sums.{sum-map}
 use Rattle.sqlite_keyed.proofs.ListLemmas.{map-map}
 use Rattle.playlist_core.specs.declared.item.Item.{Item}
-use Rattle.reports.specs.Playlist.{frames_of}
+use Rattle.report_texts.specs.Playlist.{frames_of}
 use Rattle.station_tables_records.specs.declared.day_rows.ItemRow.{ItemRow}
 use Rattle.station_tables_reading.proofs.day_counting.frames_of.Goals as goal
 

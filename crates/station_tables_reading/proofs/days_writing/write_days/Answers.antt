@@ -4,9 +4,9 @@ use Rattle.std.specs.List.{flat_map}
 use Rattle.std.specs.Vec.{vec_len}
 use Rattle.std.specs.Io.KnownBytes.{Appends}
 use Rattle.std.proofs.lemmas.List.{append-nil, length-map}
-use Rattle.reports.specs.Output.{AppendsPart}
-use Rattle.reports.specs.Days.{batches_of, counts_line, day_counts, day_line, days_end}
-use Rattle.reports.proofs.PartLemmas.{nothing_yet, part_behind, whole_behind}
+use Rattle.report_texts.specs.Output.{AppendsPart}
+use Rattle.report_texts.specs.Days.{batches_of, counts_line, day_counts, day_line, days_end}
+use Rattle.report_texts.proofs.PartLemmas.{nothing_yet, part_behind, whole_behind}
 use Rattle.channel_view_model.specs.Centre.{view_at}
 use Rattle.station_tables_records.specs.Inside.{inside}
 use Rattle.station_tables_statements.specs.Calls.{set_in}

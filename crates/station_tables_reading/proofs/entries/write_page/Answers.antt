@@ -2,9 +2,9 @@
 use Rattle.std.proofs.Common.{◌≡◌, List, Ok, length, sym, ap, ◌∙◌, subst}
 use Rattle.vault_core.specs.declared.tape.Tape.{Tape}
 use Rattle.vault_core.specs.Rules.{slots_of}
-use Rattle.reports.specs.Vault.{tape_line}
-use Rattle.reports.specs.Clips.{clip_line}
-use Rattle.reports.specs.Offers.{offer_line}
+use Rattle.report_texts.specs.Vault.{tape_line}
+use Rattle.report_texts.specs.Clips.{clip_line}
+use Rattle.report_texts.specs.Offers.{offer_line}
 use Rattle.channel_view_model.specs.Centre.{view_at}
 use Rattle.channel_view_model.specs.Tables.{rows_of}
 use Rattle.station_tables_records.specs.Inside.{inside}

@@ -1,7 +1,7 @@
 -- `write_own`: writes a table of the channel, whose row of the plan this is.
 use Rattle.std.proofs.Common.{◌≡◌, ◌*◌, take}
 use Rattle.std.specs.Io.KnownBytes.{Appends}
-use Rattle.reports.specs.Output.{AppendsPart}
+use Rattle.report_texts.specs.Output.{AppendsPart}
 use Rattle.channel_view_model.specs.declared.view.View.{View}
 use Rattle.channel_view_model.specs.TableText.{table_text}
 use Rattle.station_tables_statements.proofs.LookLemmas.{looks_then}

@@ -1,9 +1,9 @@
 -- `write_seen`: writes it where the channel is in the plan, and says whether it is.
 use Rattle.std.proofs.Common.{rules as common, ℕ, List, true, Option, is_some, sym, ap, ◌∙◌, subst}
 use Rattle.std.specs.Io.KnownBytes.{Appends}
-use Rattle.reports.specs.Output.{AppendsPart}
-use Rattle.reports.proofs.PartLemmas.{nothing_yet}
-use Rattle.reports.proofs.LineLemmas.{on_err}
+use Rattle.report_texts.specs.Output.{AppendsPart}
+use Rattle.report_texts.proofs.PartLemmas.{nothing_yet}
+use Rattle.report_texts.proofs.LineLemmas.{on_err}
 use Rattle.channel_view_model.specs.declared.view.View.{View}
 use Rattle.channel_view_model.specs.TableText.{table_text, text_at}
 use Rattle.station_tables_records.specs.Inside.{inside}

@@ -3,8 +3,8 @@ use Rattle.std.proofs.Common.{List, ℕ, ap, ◌∙◌, subst, arith, rules}
 use Rattle.std.specs.Prelude.{OnErr}
 use Rattle.sqlite.specs.State.{HasCleanDisk}
 use Rattle.sqlite.specs.Held.{state}
-use Rattle.reports.specs.Output.{AppendsPart}
-use Rattle.reports.proofs.LineLemmas.{map_err}
+use Rattle.report_texts.specs.Output.{AppendsPart}
+use Rattle.report_texts.proofs.LineLemmas.{map_err}
 use Rattle.channel_view_model.specs.Centre.{Centre, plan_of, view_of}
 use Rattle.channel_view_model.specs.TableText.{text_at}
 use Rattle.station_tables_records.specs.Inside.{inside}

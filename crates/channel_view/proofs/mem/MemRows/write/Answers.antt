@@ -1,8 +1,8 @@
 -- `MemRows::write`: a table of the channel, where it is in the plan.
 use Rattle.std.proofs.Common.{subst, ap}
 use Rattle.std.specs.Option.{option_map}
-use Rattle.reports.specs.Output.{AppendsPart}
-use Rattle.reports.proofs.LineLemmas.{on_err}
+use Rattle.report_texts.specs.Output.{AppendsPart}
+use Rattle.report_texts.proofs.LineLemmas.{on_err}
 use Rattle.channel_view_model.specs.TableText.{text_at}
 use Rattle.channel_view_model.specs.Centre.{view_at, view_of}
 use Rattle.channel_view.proofs.mem.MemRows.write.Goals as goal

@@ -4,13 +4,13 @@ use Rattle.std.specs.Prelude.{◌==◌, filter}
 use Rattle.std.specs.Io.KnownBytes.{Appends}
 use Rattle.std.specs.List.Sorted.{IsNonDecreasingBy}
 use Rattle.std.proofs.lemmas.Result.{on_ok_weaker, on_err_weaker}
-use Rattle.reports.specs.Output.{AppendsPart}
-use Rattle.reports.proofs.LineLemmas.{on_err}
-use Rattle.reports.specs.Vault.{vault_text}
-use Rattle.reports.specs.Clips.{clip_text}
-use Rattle.reports.specs.Offers.{offer_text}
-use Rattle.reports.specs.Lent.{lent_text}
-use Rattle.reports.specs.Days.{days_text}
+use Rattle.report_texts.specs.Output.{AppendsPart}
+use Rattle.report_texts.proofs.LineLemmas.{on_err}
+use Rattle.report_texts.specs.Vault.{vault_text}
+use Rattle.report_texts.specs.Clips.{clip_text}
+use Rattle.report_texts.specs.Offers.{offer_text}
+use Rattle.report_texts.specs.Lent.{lent_text}
+use Rattle.report_texts.specs.Days.{days_text}
 use Rattle.channel_view_model.specs.Tables.{rows_alone}
 use Rattle.channel_view_model.specs.Seen.{grants_to}
 use Rattle.channel_view_model.specs.TableText.{text_seen, table_text}

@@ -3,8 +3,8 @@ use Rattle.std.proofs.Common.{◌≡◌, ◌∙◌, true, ap, sym, subst}
 use Rattle.std.specs.Prelude.{is_some, find}
 use Rattle.std.specs.Option.{option_map}
 use Rattle.std.specs.Io.KnownBytes.{Appends}
-use Rattle.reports.specs.Output.{AppendsPart}
-use Rattle.reports.proofs.LineLemmas.{on_err}
+use Rattle.report_texts.specs.Output.{AppendsPart}
+use Rattle.report_texts.proofs.LineLemmas.{on_err}
 use Rattle.channel_view_model.specs.declared.table.Table.TheVariants.{Days}
 use Rattle.channel_view_model.specs.Centre.{view_of}
 use Rattle.channel_view_model.specs.TableText.{text_at}

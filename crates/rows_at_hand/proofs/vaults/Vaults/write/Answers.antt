@@ -2,9 +2,9 @@
 use Rattle.std.proofs.Common.{◌≡◌, ◌∙◌, sym, ap, subst}
 use Rattle.std.specs.Prelude.{IfOk, OnOk, OnErr, is_some}
 use Rattle.std.specs.Io.KnownBytes.{Appends}
-use Rattle.reports.specs.Output.{AppendsPart}
-use Rattle.reports.proofs.PartLemmas.{nothing_yet}
-use Rattle.reports.proofs.LineLemmas.{on_err}
+use Rattle.report_texts.specs.Output.{AppendsPart}
+use Rattle.report_texts.proofs.PartLemmas.{nothing_yet}
+use Rattle.report_texts.proofs.LineLemmas.{on_err}
 use Rattle.channel_view_model.specs.TableText.{text_at}
 use Rattle.channel_view_model.specs.Centre.{view_of}
 use Rattle.rows_at_hand.proofs.VaultLemmas.{absent, no_view, planned_alone, some_view, text_alone, text_lent, there}

@@ -1,6 +1,6 @@
 -- The loops of `push_copies` (so many copies of a byte behind the line, which has room for them).
 use Rattle.std.proofs.Common.{◌≡◌, ◌+◌, ◌++◌, length, replicate}
-use Rattle.reports.proofs.line.push_copies.Given as goal
+use Rattle.report_texts.proofs.line.push_copies.Given as goal
 
 -- the copies so far
 abbrev pub invariant-loop-pushed : goal.invariant-loop-pushed

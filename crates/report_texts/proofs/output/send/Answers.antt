@@ -1,7 +1,7 @@
 -- `send`: writes all the bytes, and flushes.
 use Rattle.std.proofs.Common.{arith}
-use Rattle.reports.proofs.PartLemmas.{rest_appended}
-use Rattle.reports.proofs.output.send.Goals as goal
+use Rattle.report_texts.proofs.PartLemmas.{rest_appended}
+use Rattle.report_texts.proofs.output.send.Goals as goal
 
 pub loop-sent-preserved : goal.loop-sent-preserved
 loop-sent-preserved g c =

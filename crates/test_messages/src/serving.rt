@@ -1,16 +1,10 @@
 //! Connections that are served over a new store of one channel.
-use channel_plan::PlanRow;
-use channel_view::MemRows;
+use crate::streams::store_of;
 use playout_lists::FaultLines;
 use playout_peers::{Door, Limits, serve_peers, serve_turns};
 use std::alloc::Global;
 use std::net::TcpListener;
 use std::process::Abort;
-
-fn store_of(rt: &impl Abort, alloc: Global) -> MemRows {
-    let row = PlanRow::read(b"1,25,06:00:00:00,40").expect(rt, "a plan row");
-    MemRows::new(alloc, &[row]).expect(rt, "a plan")
-}
 
 /// Whether all went without a fault, and what was told of faults.
 pub(crate) fn served<D: Door>(

@@ -12,7 +12,7 @@ pub enum RowFault {
 
 impl From<WriteFault> for RowFault {
     ghost use Rattle.std.specs.Prelude.{◌≡◌};
-    ghost use Rattle.reports.specs.declared.fault.RowFault.TheVariants.{Write};
+    ghost use Rattle.report_texts.specs.declared.fault.RowFault.TheVariants.{Write};
 
     ghost from_gives = { λ fault made. made ≡ Write fault };
 

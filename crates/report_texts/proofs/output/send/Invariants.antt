@@ -1,7 +1,7 @@
 -- The loops of `send` (writes all the bytes, and flushes).
 use Rattle.std.proofs.Common.{◌≤◌, ◌-◌, length, take}
 use Rattle.std.specs.Io.KnownBytes.{Appends}
-use Rattle.reports.proofs.output.send.Given as goal
+use Rattle.report_texts.proofs.output.send.Given as goal
 
 -- what was written so far
 abbrev pub invariant-loop-sent : goal.invariant-loop-sent

@@ -7,7 +7,7 @@ use Rattle.timecode.specs.Label.{frame_text}
 use Rattle.umid.specs.BasicUmid.{basic_umid}
 use Rattle.vault_core.specs.declared.clip.Clip.{Clip}
 use Rattle.vault_core.specs.Reel.{clip_reel}
-use Rattle.reports.specs.Fields.{left_in, number_in, has_label}
+use Rattle.report_texts.specs.Fields.{left_in, number_in, has_label}
 
 -- whether a clip is retired
 abbrev pub state_field : Bool → List ℕ

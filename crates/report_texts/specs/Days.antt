@@ -3,9 +3,9 @@ use Rattle.std.specs.Prelude.{ℕ, List, ◌++◌, ◌==◌, Option, Some, None,
 use Rattle.std.specs.List.{flat_map}
 use Rattle.playlist_core.specs.Day.{Day}
 use Rattle.asrun_match.specs.declared.day.DayAsRun.{DayAsRun}
-use Rattle.reports.specs.declared.days.DayCounts.{DayCounts}
-use Rattle.reports.specs.Fields.{left_in, number_in}
-use Rattle.reports.specs.Playlist.{day_state, frames_of}
+use Rattle.report_texts.specs.declared.counts.DayCounts.{DayCounts}
+use Rattle.report_texts.specs.Fields.{left_in, number_in}
+use Rattle.report_texts.specs.Playlist.{day_state, frames_of}
 
 -- how many batches came for the day of this number
 abbrev pub batches_in : Option DayAsRun → ℕ

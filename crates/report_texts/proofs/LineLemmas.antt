@@ -6,8 +6,8 @@ use Rattle.std.specs.List.{flat_map}
 use Rattle.std.specs.Io.KnownBytes.{Appends}
 use Rattle.std.proofs.lemmas.List.{append_assoc, append-nil, get_or_default, take_more}
 use Rattle.std.proofs.lemmas.Grind.{flat_map-append}
-use Rattle.reports.proofs.PartLemmas.{whole_behind}
-pub use Rattle.reports.proofs.PartLemmas.{on_err}
+use Rattle.report_texts.proofs.PartLemmas.{whole_behind}
+pub use Rattle.report_texts.proofs.PartLemmas.{on_err}
 
 -- those in front of one, its own, and those behind it
 pub lines_at : {X : Type 0} (f : X → List ℕ) (xs : List X) (i : ℕ) (x : X) → i < length xs → x ≡ get_or xs i x

@@ -1,7 +1,7 @@
 //! All of some bytes, or a beginning of them.
 ghost use Rattle.std.specs.Prelude.{◌<◌, ◌≤◌, [], ◌∷◌, ◌++◌, length, IfOk, OnOk, OnErr, take};
 ghost use Rattle.std.specs.Io.KnownBytes.{Appends, Keeps};
-ghost use Rattle.reports.specs.Output.{AppendsPart};
+ghost use Rattle.report_texts.specs.Output.{AppendsPart};
 
 use std::io::Write;
 

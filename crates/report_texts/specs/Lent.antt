@@ -7,8 +7,8 @@ use Rattle.timecode.specs.Label.{frame_text}
 use Rattle.umid.specs.BasicUmid.{basic_umid}
 use Rattle.grant_core.specs.declared.grant.Grant.{Grant}
 use Rattle.grant_core.specs.Grant.{lent_reel}
-use Rattle.reports.specs.Fields.{left_in, number_in, has_label}
-use Rattle.reports.specs.Offers.{offer_state, window_field}
+use Rattle.report_texts.specs.Fields.{left_in, number_in, has_label}
+use Rattle.report_texts.specs.Offers.{offer_state, window_field}
 
 -- reel, state, the window where there is one, rate, label of the first source frame at it, frames, UMID, title
 abbrev pub lent_line : Grant → List ℕ

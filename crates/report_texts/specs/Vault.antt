@@ -4,7 +4,7 @@ use Rattle.std.specs.List.{flat_map}
 use Rattle.channel_plan.specs.declared.plan.PlanRow.{PlanRow}
 use Rattle.vault_core.specs.declared.tape.Tape.{Tape}
 use Rattle.vault_core.specs.Rules.{slots_of}
-use Rattle.reports.specs.Fields.{left_in, number_in}
+use Rattle.report_texts.specs.Fields.{left_in, number_in}
 
 -- the slot in which a tape stands, or that it is out
 abbrev pub slot_field : Option ℕ → List ℕ

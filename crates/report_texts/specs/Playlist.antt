@@ -10,7 +10,7 @@ use Rattle.playlist_core.specs.declared.day.DayState.TheVariants.{NotThere, Open
 use Rattle.playlist_core.specs.Day.{Day, label_at}
 use Rattle.playlist_core.specs.Item.{kind_text}
 use Rattle.playlist_core.specs.Source.{source_reel}
-use Rattle.reports.specs.Fields.{left_in, number_in, has_label}
+use Rattle.report_texts.specs.Fields.{left_in, number_in, has_label}
 
 -- whether the day is sealed
 abbrev pub day_state : DayState → List ℕ
